@@ -17,9 +17,9 @@ use Rattle.protobuf_parse_model.specs.Descriptors.{MessageDescriptor, parts_seen
 use Rattle.protobuf_parse_model.specs.Lookup.{declared}
 use Rattle.protobuf_parse_options.specs.ByName.{fields_of_all, first, named, values_of_all}
 use Rattle.protobuf_parse_wire.specs.Declarations.{Declaration, messages_named}
-use Rattle.protobuf_parse_options.specs.Known.{extension_under_name, field_among, field_seen}
-use Rattle.protobuf_parse_options.specs.Known.{number_among}
-use Rattle.protobuf_parse_options.specs.Known.{values_among}
+use Rattle.protobuf_parse_options.specs.Views.{extension_under_name, field_among, field_seen}
+use Rattle.protobuf_parse_options.specs.Views.{number_among}
+use Rattle.protobuf_parse_options.specs.Views.{values_among}
 use Rattle.protobuf_parse_options.proofs.Found.{number_split}
 
 pub is_some_mapped : {A B : Type 0} (f : A → B) (o : Option A) → is_some (option_map f o)

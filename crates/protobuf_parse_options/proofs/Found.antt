@@ -6,7 +6,7 @@ use Rattle.std.specs.List.{find}
 use Rattle.std.specs.Option.{option_or}
 use Rattle.std.proofs.lemmas.List.Folds.{find-append}
 use Rattle.protobuf_parse_model.specs.Descriptors.{Text, EnumValueDescriptor}
-use Rattle.protobuf_parse_options.specs.Known.{number_among}
+use Rattle.protobuf_parse_options.specs.Views.{number_among}
 
 -- the rest of a list that is mapped
 pub mapped_rest : {X Y : Type 0} (f : X → Y) (xs : List X) (i : ℕ) (x : X) → i < length xs → x

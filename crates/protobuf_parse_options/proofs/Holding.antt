@@ -1,4 +1,4 @@
--- What stands at the places that the index holds, in the files that are picked.
+-- What stands at the spots that the index holds, in the files that are picked.
 use Rattle.std.specs.Prelude.{String}
 use Rattle.std.proofs.Common.{◌≡◌, ℕ, suc, ◌+◌, Bool, true, false, cond, if◌then◌else◌, List, []}
 use Rattle.std.proofs.Common.{◌∷◌, ◌++◌, map, flat_map, filter, length, Option, Some, None, refl}
@@ -15,24 +15,24 @@ use Rattle.std.proofs.lemmas.List.{map-append}
 use Rattle.std.proofs.lemmas.List.Elements.{filter-append}
 use Rattle.protobuf_parse_model.specs.Declarations.{Declared}
 use Rattle.protobuf_parse_model.specs.Descriptors.{Text, FileDescriptor, MessageDescriptor}
-use Rattle.protobuf_parse_options.specs.declared.known.Known.{Known}
-use Rattle.protobuf_parse_options.specs.declared.picked_files.PickedFiles.{PickedFiles}
-use Rattle.protobuf_parse_options.specs.declared.places.DeclaredPlace.{DeclaredPlace}
+use Rattle.protobuf_parse_options.specs.declared.spots.declared.Spotted.{Spotted}
+use Rattle.protobuf_parse_options.specs.declared.spots.picked.PickedFiles.{PickedFiles}
+use Rattle.protobuf_parse_options.specs.declared.spots.Spot.{Spot}
 use Rattle.protobuf_parse_options.specs.ByName.{named}
 use Rattle.protobuf_parse_wire.specs.Declarations.{Declaration, messages_declared_in}
 use Rattle.protobuf_parse_wire.specs.Declarations.{messages_named}
-use Rattle.protobuf_parse_options.specs.Holding.{AddsSpots, Picks, Spot, at_spot, at_spots, beside}
-use Rattle.protobuf_parse_options.specs.Holding.{file_numbered, files_seen, inside_of, placed_known}
-use Rattle.protobuf_parse_options.specs.Holding.{spot_in, spot_known, spot_view, spots_in}
-use Rattle.protobuf_parse_options.specs.Holding.{spots_known}
-use Rattle.protobuf_parse_options.specs.Holding.{spots_of, spots_under}
+use Rattle.protobuf_parse_options.specs.Holding.{AddsSpots, Picks, SpotView, at_spot, at_spots, beside}
+use Rattle.protobuf_parse_options.specs.Holding.{file_numbered, files_seen, inside_of, spotted_view}
+use Rattle.protobuf_parse_options.specs.Holding.{spot_in, spot_of, spot_view, spots_in}
+use Rattle.protobuf_parse_options.specs.Holding.{spots_of_list}
+use Rattle.protobuf_parse_options.specs.Holding.{spots_in_files, spots_under}
 use Rattle.protobuf_parse_base.specs.Multimaps.{values_under}
 use Rattle.protobuf_parse_model.specs.Descriptors.{parts_seen}
-use Rattle.protobuf_parse_options.specs.Places.{Inside, Placed, one_inside, placed_messages}
+use Rattle.protobuf_parse_options.specs.Spots.{Inside, SpottedView, one_inside, spotted_messages}
 use Rattle.protobuf_parse_wire.proofs.Adding.{messages_named-append}
 use Rattle.protobuf_parse_options.proofs.Found.{mapped_rest}
-use Rattle.protobuf_parse_options.proofs.Placing.{StandsIn, declared_of, message_of}
-use Rattle.protobuf_parse_options.proofs.Placing.{messages_without}
+use Rattle.protobuf_parse_options.proofs.Spotting.{StandsIn, declared_of, message_of}
+use Rattle.protobuf_parse_options.proofs.Spotting.{messages_without}
 use Rattle.protobuf_parse_model.specs.Tables.{picked}
 use Rattle.protobuf_parse_model.proofs.Picks.{among, picked_among}
 
@@ -68,30 +68,30 @@ pub seen_is : (files : List FileDescriptor) (p : PickedFiles) → Picks files p
     → files_seen p ≡ picked files p.numbers.now
 seen_is files p h = ap (flat_map option_to_list) h ∙ joined_is files p.numbers.now
 
--- ---- what stands at the places
+-- ---- what stands at the spots
 
 -- what has the name in a file
-abbrev pub named_in : {T : Type 0} → (FileDescriptor → List (Placed T)) → Text → FileDescriptor
+abbrev pub named_in : {T : Type 0} → (FileDescriptor → List (SpottedView T)) → Text → FileDescriptor
     → List T
-named_in {T = T} listed name file = map (λ (p : Placed T). p.what)
-    (filter (λ (p : Placed T). bytes_eq name p.name) (listed file))
+named_in {T = T} listed name file = map (λ (p : SpottedView T). p.what)
+    (filter (λ (p : SpottedView T). bytes_eq name p.name) (listed file))
 
 module _ {T : Type 0} (parts : T → List Text) (list : Inside → List T)
-    (listed : FileDescriptor → List (Placed T))
+    (listed : FileDescriptor → List (SpottedView T))
     (stand : (file : FileDescriptor) → AllByRecursion (StandsIn list file) (listed file))
     (name : Text) (picks : PickedFiles) where
-  abbrev is_named : Placed T → Bool
+  abbrev is_named : SpottedView T → Bool
   is_named p = bytes_eq name p.name
 
-  abbrev what_of : Placed T → T
+  abbrev what_of : SpottedView T → T
   what_of p = p.what
 
-  abbrev look : Spot → List T
+  abbrev look : SpotView → List T
   look s = option_to_list (at_spot list picks s)
 
   -- a file that is picked
   kept : (n : ℕ) (file : FileDescriptor) → file_numbered picks n ≡ Some file
-      → (ps : List (Placed T)) → AllByRecursion (StandsIn list file) ps
+      → (ps : List (SpottedView T)) → AllByRecursion (StandsIn list file) ps
       → flat_map look (spots_in parts n name ps) ≡ map what_of (filter is_named ps)
   kept n file e [] h = refl
   kept n file e (p ∷ ps) h = by_test (is_named p) (kept n file e ps h.1)
@@ -110,7 +110,7 @@ module _ {T : Type 0} (parts : T → List Text) (list : Inside → List T)
       by_test false rest = rest
 
   -- one that isn't
-  left_out : (n : ℕ) → file_numbered picks n ≡ None → (ps : List (Placed T))
+  left_out : (n : ℕ) → file_numbered picks n ≡ None → (ps : List (SpottedView T))
       → flat_map look (map (spot_in parts n) ps) ≡ []
   left_out n e [] = refl
   left_out n e (p ∷ ps) =
@@ -140,14 +140,14 @@ module _ {T : Type 0} (parts : T → List Text) (list : Inside → List T)
 
     from : (n : ℕ) (fs : List FileDescriptor)
         → ((i : ℕ) → slice_get files (n + i) ≡ slice_get fs i)
-        → flat_map look (spots_of parts listed name n fs)
+        → flat_map look (spots_in_files parts listed name n fs)
         ≡ flat_map (named_in listed name) (among picks.numbers.now n fs)
     from n [] h = refl
     from n (f ∷ fs) h =
         let zero_more : n ≡ n + 0 = omega arith in
         flat_map-append look (spots_in parts n name (listed f))
-        (spots_of parts listed name (suc n) fs)
-        ∙ ap (λ xs. xs ++ flat_map look (spots_of parts listed name (suc n) fs))
+        (spots_in_files parts listed name (suc n) fs)
+        ∙ ap (λ xs. xs ++ flat_map look (spots_in_files parts listed name (suc n) fs))
         (one_file n f (ap (slice_get files) zero_more ∙ h 0))
         ∙ ap (λ xs. flat_map (named_in listed name) (if has n then f ∷ [] else []) ++ xs)
         (from (suc n) fs (λ i. let e : suc n + i ≡ n + suc i = omega arith in
@@ -155,8 +155,8 @@ module _ {T : Type 0} (parts : T → List Text) (list : Inside → List T)
         ∙ sym (flat_map-append (named_in listed name) (if has n then f ∷ [] else [])
         (among picks.numbers.now (suc n) fs))
 
-    -- what stands at the places of the name is what has the name in the files that are picked
-    pub stands_there : at_spots list picks (spots_of parts listed name 0 files)
+    -- what stands at the spots of the name is what has the name in the files that are picked
+    pub stands_there : at_spots list picks (spots_in_files parts listed name 0 files)
         ≡ flat_map (named_in listed name) (files_seen picks)
     stands_there =
         from 0 files (λ i. ap (slice_get files) (zero-add i))
@@ -166,51 +166,51 @@ module _ {T : Type 0} (parts : T → List Text) (list : Inside → List T)
 -- ---- the index as it grows
 
 pub spots_of_known : {T U : Type 0} (seen : T → U) (parts : U → List Text) (file : ℕ) (name : Text)
-    (ks : List (Known (Bor T)))
-    → spots_in parts file name (map (placed_known (λ (b : Bor T). seen b.now)) ks)
-    ≡ spots_known (λ t. parts (seen t)) file name ks
+    (ks : List (Spotted (Bor T)))
+    → spots_in parts file name (map (spotted_view (λ (b : Bor T). seen b.now)) ks)
+    ≡ spots_of_list (λ t. parts (seen t)) file name ks
 spots_of_known seen parts file name [] = refl
 spots_of_known {T = T} {U = U} seen parts file name (k ∷ ks) =
     by_test (bytes_eq name (string_bytes k.name)) refl (spots_of_known seen parts file name ks)
   where
-    placed : Known (Bor T) → Placed U
-    placed = placed_known (λ (b : Bor T). seen b.now)
+    placed : Spotted (Bor T) → SpottedView U
+    placed = spotted_view (λ (b : Bor T). seen b.now)
 
     of_parts : T → List Text
     of_parts t = parts (seen t)
 
     by_test : (b : Bool) → bytes_eq name (string_bytes k.name) ≡ b
-        → spots_in parts file name (map placed ks) ≡ spots_known of_parts file name ks
-        → spots_in parts file name (map placed (k ∷ ks)) ≡ spots_known of_parts file name (k ∷ ks)
-    by_test true e rest = rw e (ap (λ (ss : List Spot). spot_known of_parts file k ∷ ss) rest)
+        → spots_in parts file name (map placed ks) ≡ spots_of_list of_parts file name ks
+        → spots_in parts file name (map placed (k ∷ ks)) ≡ spots_of_list of_parts file name (k ∷ ks)
+    by_test true e rest = rw e (ap (λ (ss : List SpotView). spot_of of_parts file k ∷ ss) rest)
     by_test false e rest = rw e rest
 
-pub spots_push : {T : Type 0} (parts : T → List Text) (listed : FileDescriptor → List (Placed T))
+pub spots_push : {T : Type 0} (parts : T → List Text) (listed : FileDescriptor → List (SpottedView T))
     (name : Text) (n : ℕ) (fs : List FileDescriptor) (f : FileDescriptor)
-    → spots_of parts listed name n (fs ++ f ∷ [])
-    ≡ spots_of parts listed name n fs ++ spots_in parts (n + length fs) name (listed f)
+    → spots_in_files parts listed name n (fs ++ f ∷ [])
+    ≡ spots_in_files parts listed name n fs ++ spots_in parts (n + length fs) name (listed f)
 spots_push parts listed name n [] f = let e : n ≡ n + 0 = omega arith in
     append-nil (spots_in parts n name (listed f)) ∙ ap (λ i. spots_in parts i name (listed f)) e
 spots_push parts listed name n (x ∷ fs) f = let e : suc n + length fs
     ≡ n + suc (length fs) = omega arith in
     ap (λ ss. spots_in parts n name (listed x) ++ ss)
     (spots_push parts listed name (suc n) fs f
-    ∙ ap (λ i. spots_of parts listed name (suc n) fs ++ spots_in parts i name (listed f)) e)
-    ∙ sym (append_assoc (spots_in parts n name (listed x)) (spots_of parts listed name (suc n) fs)
+    ∙ ap (λ i. spots_in_files parts listed name (suc n) fs ++ spots_in parts i name (listed f)) e)
+    ∙ sym (append_assoc (spots_in parts n name (listed x)) (spots_in_files parts listed name (suc n) fs)
     (spots_in parts (n + suc (length fs)) name (listed f)))
 
--- the places of what the next file declares
+-- the spots of what the next file declares
 pub more_held : {T U : Type 0} (seen : T → U) (parts : U → List Text)
-    (listed : FileDescriptor → List (Placed U))
-    (old new : BTreeMap (String Global) (Vec DeclaredPlace)) (files : List FileDescriptor)
-    (f : FileDescriptor) (n : ℕ) (ks : List (Known (Bor T))) → length files ≡ n
-    → map (placed_known (λ (b : Bor T). seen b.now)) ks ≡ listed f
-    → AddsSpots old new (λ name. spots_known (λ t. parts (seen t)) n name ks)
-    → ((name : Text) → spots_under old name ≡ spots_of parts listed name 0 files)
-    → (name : Text) → spots_under new name ≡ spots_of parts listed name 0 (files ++ f ∷ [])
+    (listed : FileDescriptor → List (SpottedView U))
+    (old new : BTreeMap (String Global) (Vec Spot)) (files : List FileDescriptor)
+    (f : FileDescriptor) (n : ℕ) (ks : List (Spotted (Bor T))) → length files ≡ n
+    → map (spotted_view (λ (b : Bor T). seen b.now)) ks ≡ listed f
+    → AddsSpots old new (λ name. spots_of_list (λ t. parts (seen t)) n name ks)
+    → ((name : Text) → spots_under old name ≡ spots_in_files parts listed name 0 files)
+    → (name : Text) → spots_under new name ≡ spots_in_files parts listed name 0 (files ++ f ∷ [])
 more_held seen parts listed old new files f n ks len is adds before name =
-    adds name ∙ ap (λ ss. ss ++ spots_known (λ t. parts (seen t)) n name ks) (before name)
-    ∙ ap (λ ss. spots_of parts listed name 0 files ++ ss)
+    adds name ∙ ap (λ ss. ss ++ spots_of_list (λ t. parts (seen t)) n name ks) (before name)
+    ∙ ap (λ ss. spots_in_files parts listed name 0 files ++ ss)
     (sym (spots_of_known seen parts n name ks) ∙ ap (spots_in parts n name) is
     ∙ ap (λ i. spots_in parts i name (listed f)) (sym len ∙ sym (zero-add (length files))))
     ∙ sym (spots_push parts listed name 0 files f)
@@ -224,25 +224,25 @@ named-append {T = T} name ds es =
     (filter-append (λ (d : Declared T). bytes_eq name d.name) ds es)
     ∙ map-append (λ (d : Declared T). d.what) _ _
 
-named_without : {T : Type 0} (name : Text) (ps : List (Placed T))
-    → map (λ (p : Placed T). p.what) (filter (λ (p : Placed T). bytes_eq name p.name) ps)
+named_without : {T : Type 0} (name : Text) (ps : List (SpottedView T))
+    → map (λ (p : SpottedView T). p.what) (filter (λ (p : SpottedView T). bytes_eq name p.name) ps)
     ≡ named name (map declared_of ps)
 named_without name [] = refl
 named_without {T = T} name (p ∷ ps) = by_test (bytes_eq name p.name) (named_without name ps)
   where
     by_test : (b : Bool)
-        → map (λ (q : Placed T). q.what) (filter (λ (q : Placed T). bytes_eq name q.name) ps)
+        → map (λ (q : SpottedView T). q.what) (filter (λ (q : SpottedView T). bytes_eq name q.name) ps)
         ≡ named name (map declared_of ps)
-        → map (λ (q : Placed T). q.what)
-        (cond b (p ∷ filter (λ (q : Placed T). bytes_eq name q.name)
-        ps) (filter (λ (q : Placed T). bytes_eq name q.name) ps))
+        → map (λ (q : SpottedView T). q.what)
+        (cond b (p ∷ filter (λ (q : SpottedView T). bytes_eq name q.name)
+        ps) (filter (λ (q : SpottedView T). bytes_eq name q.name) ps))
         ≡ map (λ (d : Declared T). d.what) (cond b (declared_of p ∷ filter
         (λ (d : Declared T). bytes_eq name d.name) (map declared_of ps))
         (filter (λ (d : Declared T). bytes_eq name d.name) (map declared_of ps)))
     by_test true rest = ap (λ xs. p.what ∷ xs) rest
     by_test false rest = rest
 
-pub all_named : {T : Type 0} (listed : FileDescriptor → List (Placed T))
+pub all_named : {T : Type 0} (listed : FileDescriptor → List (SpottedView T))
     (declared : FileDescriptor → List (Declared T))
     → ((file : FileDescriptor) → map declared_of (listed file) ≡ declared file)
     → (name : Text) (fs : List FileDescriptor)
@@ -254,20 +254,20 @@ all_named listed declared without name (f ∷ fs) =
     ∙ ap (λ xs. named name (declared f) ++ xs) (all_named listed declared without name fs)
     ∙ sym (named-append name (declared f) (flat_map declared fs))
 
-parts_without : (name : Text) (ps : List (Placed MessageDescriptor))
-    → map parts_seen (map (λ (p : Placed MessageDescriptor). p.what)
-    (filter (λ (p : Placed MessageDescriptor). bytes_eq name p.name) ps))
+parts_without : (name : Text) (ps : List (SpottedView MessageDescriptor))
+    → map parts_seen (map (λ (p : SpottedView MessageDescriptor). p.what)
+    (filter (λ (p : SpottedView MessageDescriptor). bytes_eq name p.name) ps))
     ≡ messages_named name (map message_of ps)
 parts_without name [] = refl
 parts_without name (p ∷ ps) = by_test (bytes_eq name p.name) (parts_without name ps)
   where
     by_test : (b : Bool)
-        → map parts_seen (map (λ (q : Placed MessageDescriptor). q.what)
-        (filter (λ (q : Placed MessageDescriptor). bytes_eq name q.name) ps))
+        → map parts_seen (map (λ (q : SpottedView MessageDescriptor). q.what)
+        (filter (λ (q : SpottedView MessageDescriptor). bytes_eq name q.name) ps))
         ≡ messages_named name (map message_of ps)
-        → map parts_seen (map (λ (q : Placed MessageDescriptor). q.what) (cond b
-        (p ∷ filter (λ (q : Placed MessageDescriptor). bytes_eq name q.name) ps)
-        (filter (λ (q : Placed MessageDescriptor). bytes_eq name q.name) ps)))
+        → map parts_seen (map (λ (q : SpottedView MessageDescriptor). q.what) (cond b
+        (p ∷ filter (λ (q : SpottedView MessageDescriptor). bytes_eq name q.name) ps)
+        (filter (λ (q : SpottedView MessageDescriptor). bytes_eq name q.name) ps)))
         ≡ map (λ (d : Declaration). d.parts) (cond b (message_of p ∷ filter
         (λ (d : Declaration). bytes_eq name d.name) (map message_of ps))
         (filter (λ (d : Declaration). bytes_eq name d.name) (map message_of ps)))
@@ -275,26 +275,26 @@ parts_without name (p ∷ ps) = by_test (bytes_eq name p.name) (parts_without na
     by_test false rest = rest
 
 pub parts_named : (name : Text) (fs : List FileDescriptor)
-    → map parts_seen (flat_map (named_in placed_messages name) fs)
+    → map parts_seen (flat_map (named_in spotted_messages name) fs)
     ≡ messages_named name (flat_map messages_declared_in fs)
 parts_named name [] = refl
 parts_named name (f ∷ fs) =
-    map-append parts_seen (named_in placed_messages name f)
-    (flat_map (named_in placed_messages name) fs)
-    ∙ ap (λ xs. xs ++ map parts_seen (flat_map (named_in placed_messages name) fs))
-    (parts_without name (placed_messages f) ∙ ap (messages_named name) (messages_without f))
+    map-append parts_seen (named_in spotted_messages name f)
+    (flat_map (named_in spotted_messages name) fs)
+    ∙ ap (λ xs. xs ++ map parts_seen (flat_map (named_in spotted_messages name) fs))
+    (parts_without name (spotted_messages f) ∙ ap (messages_named name) (messages_without f))
     ∙ ap (λ xs. messages_named name (messages_declared_in f) ++ xs) (parts_named name fs)
     ∙ sym (messages_named-append name (messages_declared_in f) (flat_map messages_declared_in fs))
 
--- a place put under a name
+-- a spot put under a name
 pub put_spot : {T : Type 0} (parts : T → List Text)
-    (old new : BTreeMap (String Global) (Vec DeclaredPlace)) (k : Known (Bor T))
-    (item : DeclaredPlace) (file : ℕ)
-    (text name : Text) → spot_view item ≡ spot_known parts file k
+    (old new : BTreeMap (String Global) (Vec Spot)) (k : Spotted (Bor T))
+    (item : Spot) (file : ℕ)
+    (text name : Text) → spot_view item ≡ spot_of parts file k
     → text ≡ string_bytes k.name
     → values_under new name
     ≡ (if bytes_eq name text then values_under old name ++ item ∷ [] else values_under old name)
-    → spots_under new name ≡ spots_under old name ++ spots_known parts file name (k ∷ [])
+    → spots_under new name ≡ spots_under old name ++ spots_of_list parts file name (k ∷ [])
 put_spot {T = T} parts old new k item file text name is named put =
     ap (map spot_view) put ∙ ap (λ (t : Text). map spot_view (if bytes_eq name t then
     values_under old name ++ item ∷ [] else values_under old name)) named
@@ -302,29 +302,29 @@ put_spot {T = T} parts old new k item file text name is named put =
   where
     by_test : (b : Bool)
         → map spot_view (cond b (values_under old name ++ item ∷ []) (values_under old name))
-        ≡ spots_under old name ++ map (spot_known parts file) (cond b (k ∷ []) [])
+        ≡ spots_under old name ++ map (spot_of parts file) (cond b (k ∷ []) [])
     by_test true = map-append spot_view (values_under old name) (item ∷ [])
-        ∙ ap (λ (s : Spot). spots_under old name ++ s ∷ []) is
+        ∙ ap (λ (s : SpotView). spots_under old name ++ s ∷ []) is
     by_test false = sym (append-nil (spots_under old name))
 
--- ---- further places
+-- ---- further spots
 
 module _ {T : Type 0} (list : Inside → List T) (picks : PickedFiles)
-    (places : List DeclaredPlace) (i : ℕ) (place : DeclaredPlace) (lt : i < length places)
-    (is : place ≡ get_or places i place) where
+    (spots : List Spot) (i : ℕ) (spot : Spot) (lt : i < length spots)
+    (is : spot ≡ get_or spots i spot) where
   abbrev at_place : Option T
-  at_place = at_spot list picks (spot_view place)
+  at_place = at_spot list picks (spot_view spot)
 
   abbrev later : List T
-  later = at_spots list picks (map spot_view (drop (i + 1) places))
+  later = at_spots list picks (map spot_view (drop (i + 1) spots))
 
-  pub opened : at_spots list picks (map spot_view (drop i places)) ≡ option_to_list at_place
+  pub opened : at_spots list picks (map spot_view (drop i spots)) ≡ option_to_list at_place
       ++ later
-  opened = ap (at_spots list picks) (mapped_rest spot_view places i place lt is)
+  opened = ap (at_spots list picks) (mapped_rest spot_view spots i spot lt is)
 
--- ---- no places
+-- ---- no spots
 
-pub none_under : (places : BTreeMap (String Global) (Vec DeclaredPlace)) → IsEmpty places
+pub none_under : (spots : BTreeMap (String Global) (Vec Spot)) → IsEmpty spots
     → (name : Text)
-    → spots_under places name ≡ []
-none_under places none name = rw none refl
+    → spots_under spots name ≡ []
+none_under spots none name = rw none refl

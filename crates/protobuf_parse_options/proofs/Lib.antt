@@ -33,7 +33,7 @@ pub mod Sound
 pub mod SoundSets
 pub mod EnumNumbers
 pub mod ByName
-pub mod Placing
+pub mod Spotting
 pub mod Picks
 pub mod Positioning
 pub mod Holding

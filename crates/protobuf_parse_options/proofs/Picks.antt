@@ -11,7 +11,7 @@ use Rattle.std.proofs.lemmas.Map.Keys.{non_decreasing_from_sorted, sorted_from_s
 use Rattle.protobuf_parse_model.specs.Descriptors.{FileDescriptor}
 use Rattle.protobuf_parse_model.proofs.Scopes.{searched-any}
 use Rattle.protobuf_parse_model.proofs.Picks.{Rises, rises}
-use Rattle.protobuf_parse_options.specs.declared.picked_files.PickedFiles.{PickedFiles}
+use Rattle.protobuf_parse_options.specs.declared.spots.picked.PickedFiles.{PickedFiles}
 use Rattle.protobuf_parse_options.specs.Holding.{beside, file_numbered, files_under, option_join}
 
 above : (k : ℕ) (ns : List ℕ) (i : ℕ) → Rises k ns → i < length ns → k ≤ get_or ns i 0

@@ -9,15 +9,15 @@ use Rattle.std.proofs.lemmas.List.{length-map}
 use Rattle.protobuf_parse_model.specs.Descriptors.{Text, FileDescriptor, parts_seen}
 use Rattle.protobuf_parse_model.specs.Descriptors.{EnumDescriptor}
 use Rattle.protobuf_parse_model.specs.Descriptors.{MessageDescriptor}
-use Rattle.protobuf_parse_options.specs.declared.picked_files.PickedFiles.{PickedFiles}
+use Rattle.protobuf_parse_options.specs.declared.spots.picked.PickedFiles.{PickedFiles}
 use Rattle.protobuf_parse_options.specs.ByName.{values_of_all}
-use Rattle.protobuf_parse_options.specs.Holding.{Picks, Spot, at_spot, at_spots, field_there}
+use Rattle.protobuf_parse_options.specs.Holding.{Picks, SpotView, at_spot, at_spots, field_there}
 use Rattle.protobuf_parse_options.specs.Holding.{found_by}
 use Rattle.protobuf_parse_options.specs.Holding.{inside_of, number_there, spot_in}
-use Rattle.protobuf_parse_options.specs.Holding.{spots_in, spots_of}
-use Rattle.protobuf_parse_options.specs.Known.{field_among, number_among}
-use Rattle.protobuf_parse_options.specs.Places.{Inside, Placed, enums_inside, field_name}
-use Rattle.protobuf_parse_options.specs.Places.{messages_inside, one_inside}
+use Rattle.protobuf_parse_options.specs.Holding.{spots_in, spots_in_files}
+use Rattle.protobuf_parse_options.specs.Views.{field_among, number_among}
+use Rattle.protobuf_parse_options.specs.Spots.{Inside, SpottedView, enums_inside, field_name}
+use Rattle.protobuf_parse_options.specs.Spots.{messages_inside, one_inside}
 use Rattle.protobuf_parse_options.specs.Positions.{most_walked, field_inside, field_names}
 use Rattle.protobuf_parse_options.specs.Positions.{kept_position, name_of_value}
 use Rattle.protobuf_parse_options.specs.Positions.{number_inside, part_in, position_from}
@@ -25,7 +25,7 @@ use Rattle.protobuf_parse_options.specs.Positions.{value_names}
 use Rattle.protobuf_parse_options.specs.Positions.{value_number}
 use Rattle.protobuf_parse_options.proofs.ByName.{fields_more, fields_of, values_more}
 use Rattle.protobuf_parse_options.proofs.Holding.{numbered_is}
-use Rattle.protobuf_parse_options.proofs.Placing.{Rest, StandsIn, all_rest, rest_first, rest_next}
+use Rattle.protobuf_parse_options.proofs.Spotting.{Rest, StandsIn, all_rest, rest_first, rest_next}
 use Rattle.protobuf_parse_options.proofs.SoundSets.{both}
 
 -- ---- in a list
@@ -87,10 +87,10 @@ number_found position name (Some e) h =
     by_position name_of_value name e.value (option_map value_number) position h
     ∙ sym (ap (λ vs. number_among vs name) (append-nil e.value))
 
--- ---- at places
+-- ---- at spots
 
--- At the place are kept the positions of the parts of what stands there.
-abbrev pub KeepsPositions : {T : Type 0} → (T → List Text) → (Inside → List T) → PickedFiles → Spot
+-- At the spot are kept the positions of the parts of what stands there.
+abbrev pub KeepsPositions : {T : Type 0} → (T → List Text) → (Inside → List T) → PickedFiles → SpotView
     → Type 0
 KeepsPositions parts list picks s =
     IfSome (at_spot list picks s) (λ x. s.position ≡ kept_position (parts x))
@@ -108,19 +108,19 @@ all_spots {A = A} P Q f test each (x ∷ xs) h =
     by_test false rest = rest
 
 module _ {T : Type 0} (parts : T → List Text) (list : Inside → List T)
-    (listed : FileDescriptor → List (Placed T))
+    (listed : FileDescriptor → List (SpottedView T))
     (stand : (file : FileDescriptor) → AllByRecursion (StandsIn list file) (listed file))
     (name : Text) (picks : PickedFiles) (files : List FileDescriptor) (is : Picks files picks) where
   abbrev has : ℕ → Bool
   has n = list_any (nat_eq n) picks.numbers.now
 
-  abbrev tells_of : Placed T → Option T → Type 0
+  abbrev tells_of : SpottedView T → Option T → Type 0
   tells_of p o = IfSome o (λ x. kept_position (parts p.what) ≡ kept_position (parts x))
 
-  abbrev there : Placed T → Option FileDescriptor → Option T
+  abbrev there : SpottedView T → Option FileDescriptor → Option T
   there p o = one_inside list (inside_of o p.path) p.index
 
-  one_told : (n : ℕ) (file : FileDescriptor) → slice_get files n ≡ Some file → (p : Placed T)
+  one_told : (n : ℕ) (file : FileDescriptor) → slice_get files n ≡ Some file → (p : SpottedView T)
       → StandsIn list file p → KeepsPositions parts list picks (spot_in parts n p)
   one_told n file e p stands = by_test (has n) refl
     where
@@ -131,21 +131,21 @@ module _ {T : Type 0} (parts : T → List Text) (list : Inside → List T)
           ∙ ap (λ b. if b then slice_get files n else None) h))) tt
 
   from_told : (n : ℕ) (fs : List FileDescriptor) → Rest files n fs
-      → AllByRecursion (KeepsPositions parts list picks) (spots_of parts listed name n fs)
+      → AllByRecursion (KeepsPositions parts list picks) (spots_in_files parts listed name n fs)
   from_told n [] h = tt
   from_told n (f ∷ fs) h =
       both (KeepsPositions parts list picks) (spots_in parts n name (listed f))
-      (spots_of parts listed name (suc n) fs)
+      (spots_in_files parts listed name (suc n) fs)
       (all_spots (StandsIn list f) (KeepsPositions parts list picks) (spot_in parts n)
-      (λ (p : Placed T). bytes_eq name p.name) (one_told n f (rest_first files n f fs h)) (listed f)
+      (λ (p : SpottedView T). bytes_eq name p.name) (one_told n f (rest_first files n f fs h)) (listed f)
       (stand f))
       (from_told (suc n) fs (rest_next files n f fs h))
 
   pub all_told : AllByRecursion (KeepsPositions parts list picks)
-      (spots_of parts listed name 0 files)
+      (spots_in_files parts listed name 0 files)
   all_told = from_told 0 files (all_rest files)
 
-pub fields_found : (picks : PickedFiles) (name : Text) (ss : List Spot)
+pub fields_found : (picks : PickedFiles) (name : Text) (ss : List SpotView)
     → AllByRecursion (KeepsPositions field_names messages_inside picks) ss
     → found_by (field_there picks name) ss
     ≡ field_among (fields_of (at_spots messages_inside picks ss)) name
@@ -159,7 +159,7 @@ fields_found picks name (s ∷ ss) h =
     (fields_found picks name ss h.1)
     ∙ sym (fields_more name (option_to_list there) later)
 
-pub numbers_found : (picks : PickedFiles) (name : Text) (ss : List Spot)
+pub numbers_found : (picks : PickedFiles) (name : Text) (ss : List SpotView)
     → AllByRecursion (KeepsPositions value_names enums_inside picks) ss
     → found_by (number_there picks name) ss
     ≡ number_among (values_of_all (at_spots enums_inside picks ss)) name

@@ -11,16 +11,16 @@ use Rattle.protobuf_parse_model.specs.declared.descriptor.EnumDescriptorProto.{E
 use Rattle.protobuf_parse_model.specs.Declarations.{Declared}
 use Rattle.protobuf_parse_model.specs.Descriptors.{Text, EnumDescriptor, EnumValueDescriptor}
 use Rattle.protobuf_parse_model.specs.Descriptors.{FileDescriptor}
-use Rattle.protobuf_parse_options.specs.declared.known.Known.{Known}
-use Rattle.protobuf_parse_options.specs.Holding.{enums_placed}
-use Rattle.protobuf_parse_options.specs.Places.{placed_enums}
-use Rattle.protobuf_parse_options.specs.Known.{enum_known, number_among, values_among}
-use Rattle.protobuf_parse_options.specs.Known.{values_if_named}
+use Rattle.protobuf_parse_options.specs.declared.spots.declared.Known.{Known}
+use Rattle.protobuf_parse_options.specs.Holding.{enums_spotted}
+use Rattle.protobuf_parse_options.specs.Spots.{spotted_enums}
+use Rattle.protobuf_parse_options.specs.Views.{enum_declared, number_among, values_among}
+use Rattle.protobuf_parse_options.specs.Views.{values_if_named}
 use Rattle.protobuf_parse_options.specs.OptionFields.{declared_enums}
 use Rattle.protobuf_parse_options.specs.OptionLaw.{HasSmallValues}
 use Rattle.protobuf_parse_options.specs.SmallValues.{AreSmall, HaveSmall}
 use Rattle.protobuf_parse_model.specs.Tables.{picked}
-use Rattle.protobuf_parse_options.proofs.Placing.{declared_of, enums_without}
+use Rattle.protobuf_parse_options.proofs.Spotting.{declared_of, enums_without}
 use Rattle.protobuf_parse_options.proofs.SoundSets.{both}
 
 pub one_more : {X : Type 0} (view : X → EnumValueDescriptor) (xs : List X) (i : ℕ) (x : X)
@@ -113,12 +113,12 @@ picked_small fs ns h = small_values (picked fs ns) (flat_map declared_enums (pic
     (small_files (picked fs ns) (small_picked fs ns h))
 
 known_without : (ks : List (Known (Bor EnumDescriptorProto)))
-    → map enum_known ks ≡ map declared_of (enums_placed ks)
+    → map enum_declared ks ≡ map declared_of (enums_spotted ks)
 known_without [] = refl
-known_without (k ∷ ks) = ap (λ es. enum_known k ∷ es) (known_without ks)
+known_without (k ∷ ks) = ap (λ es. enum_declared k ∷ es) (known_without ks)
 
 -- of a file whose enums were listed
 pub small_file : (f : FileDescriptor) (ks : List (Known (Bor EnumDescriptorProto)))
-    → enums_placed ks ≡ placed_enums f → HaveSmall (map enum_known ks) → IsSmallFile f
+    → enums_spotted ks ≡ spotted_enums f → HaveSmall (map enum_declared ks) → IsSmallFile f
 small_file f ks is small = subst HaveSmall (known_without ks ∙ ap (map declared_of) is
     ∙ enums_without f) small

@@ -5,8 +5,8 @@ use Rattle.std.specs.Prelude.{None, option_map, slice_get, if◌then◌else◌}
 use Rattle.protobuf_parse_model.specs.Descriptors.{Text, FieldDescriptor, EnumDescriptor}
 use Rattle.protobuf_parse_model.specs.Descriptors.{EnumValueDescriptor, MessageDescriptor}
 use Rattle.protobuf_parse_model.specs.Descriptors.{parts_seen}
-use Rattle.protobuf_parse_options.specs.Known.{field_among, number_among}
-use Rattle.protobuf_parse_options.specs.Places.{field_name}
+use Rattle.protobuf_parse_options.specs.Views.{field_among, number_among}
+use Rattle.protobuf_parse_options.specs.Spots.{field_name}
 
 -- the position of the first that has the name, where the first of all has this position
 abbrev pub position_from : ℕ → List Text → Text → Option ℕ

@@ -9,7 +9,7 @@ ghost use Rattle.protobuf_parse_options.specs.CustomFaults.{field_name_faults};
 ghost use Rattle.protobuf_parse_options.specs.CustomFaults.{part_faults};
 ghost use Rattle.protobuf_parse_options.specs.Given.{option_place_view};
 ghost use Rattle.protobuf_parse_options.specs.Holding.{files_seen};
-ghost use Rattle.protobuf_parse_options.specs.Known.{field_seen};
+ghost use Rattle.protobuf_parse_options.specs.Views.{field_seen};
 ghost use Rattle.protobuf_parse_options.specs.OptionFields.{constant_field, extends_message};
 ghost use Rattle.protobuf_parse_options.specs.OptionFields.{extension_meant, extension_named};
 ghost use Rattle.protobuf_parse_options.specs.OptionFields.{field_named, part_field, type_name_of};

@@ -10,11 +10,11 @@ ghost use Rattle.protobuf_parse_model.specs.Descriptors.{parts_seen};
 ghost use Rattle.protobuf_parse_options.specs.OptionBytes.{known_customs};
 ghost use Rattle.protobuf_parse_options.specs.OptionFields.{field_named, number_of_value};
 ghost use Rattle.protobuf_parse_options.specs.OptionLaw.{HasSmallValues};
-ghost use Rattle.protobuf_parse_options.specs.Places.{extensions_inside, messages_inside};
+ghost use Rattle.protobuf_parse_options.specs.Spots.{extensions_inside, messages_inside};
 
 use crate::option_place::OptionPlace;
-use crate::picked_files::PickedFiles;
-use crate::places::DeclaredPlaces;
+use crate::spots::Spots;
+use crate::spots::picked::PickedFiles;
 use crate::statements::{are_several, bytes_of, options_message};
 use protobuf_parse_model::{Construct, CustomOptions, ElabError};
 use protobuf_parse_syntax::ProtobufOption;
@@ -26,20 +26,20 @@ use std::alloc::{AllocError, Global};
 /// descriptors mean messages and enums of all files that are reached.
 #[derive(Clone, Copy)]
 pub struct KnownFiles<'a> {
-    pub(crate) places: &'a DeclaredPlaces,
+    pub(crate) spots: &'a Spots,
     pub(crate) reach: PickedFiles<'a>,
     pub(crate) sight: PickedFiles<'a>,
     ghost all_messages: { (name : List ℕ) → map parts_seen (at_spots messages_inside reach
-        (spots_under places.now.messages name))
+        (spots_under spots.now.messages name))
         ≡ messages_with_name (files_seen reach) name } by { Prim.hlevel props },
     ghost all_fields: { (message name : List ℕ) → found_by (field_there reach name)
-        (spots_under places.now.messages message)
+        (spots_under spots.now.messages message)
         ≡ field_named (files_seen reach) message name } by { Prim.hlevel props },
     ghost all_values: { (enum_name name : List ℕ) → found_by (number_there reach name)
-        (spots_under places.now.enums enum_name)
+        (spots_under spots.now.enums enum_name)
         ≡ number_of_value (files_seen reach) enum_name name } by { Prim.hlevel props },
     ghost all_extensions: { (name : List ℕ) → at_spots extensions_inside sight
-        (spots_under places.now.extensions name)
+        (spots_under spots.now.extensions name)
         ≡ named name (flat_map declared_extensions (files_seen sight)) } by { Prim.hlevel props },
     ghost small: { HasSmallValues (files_seen reach) } by { Prim.hlevel props },
 }
@@ -47,17 +47,13 @@ pub struct KnownFiles<'a> {
 impl<'a> KnownFiles<'a> {
     /// Knows the extensions of the files that a file sees, itself among them, and the messages and
     /// enums of all files that it reaches.
-    pub fn new(
-        places: &'a DeclaredPlaces,
-        reach: PickedFiles<'a>,
-        sight: PickedFiles<'a>,
-    ) -> KnownFiles<'a>
-        requires knows { Knows places.now reach sight }
+    pub fn new(spots: &'a Spots, reach: PickedFiles<'a>, sight: PickedFiles<'a>) -> KnownFiles<'a>
+        requires knows { Knows spots.now reach sight }
         ensures { ⟦<KnownFiles<'a> as CustomOptions>⟧.customs result
             ≡ known_customs (files_seen reach.entry) (files_seen sight.entry) }
     {
         KnownFiles {
-            places,
+            spots,
             reach,
             sight,
         }

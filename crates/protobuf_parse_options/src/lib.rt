@@ -4,16 +4,11 @@
 mod constants;
 mod custom_parts;
 mod fields;
-mod known;
 mod known_files;
 mod laws;
 mod lookup;
-mod members;
 mod option_place;
 mod paths;
-mod picked_files;
-mod places;
-mod positions;
 mod refuse;
 mod spots;
 mod statements;
@@ -26,5 +21,4 @@ pub use laws::{
     any_order, extensions_are_looked_up, more_files, never_too_deep, option_bytes_spell,
     options_are_not_read, options_are_read, options_are_recovered,
 };
-pub use picked_files::PickedFiles;
-pub use places::DeclaredPlaces;
+pub use spots::{PickedFiles, Spots};

@@ -6,13 +6,13 @@ ghost use Rattle.protobuf_parse_model.specs.Descriptors.{enum_value_view, field_
 ghost use Rattle.protobuf_parse_model.specs.Lookup.{declared, meaning};
 ghost use Rattle.protobuf_parse_wire.specs.Declarations.{declared_extensions};
 ghost use Rattle.protobuf_parse_options.specs.Holding.{files_seen};
-ghost use Rattle.protobuf_parse_options.specs.Known.{extension_under_name, field_among, field_seen};
-ghost use Rattle.protobuf_parse_options.specs.Known.{number_among, undeclared};
+ghost use Rattle.protobuf_parse_options.specs.Views.{extension_under_name, field_among, field_seen};
+ghost use Rattle.protobuf_parse_options.specs.Views.{number_among, undeclared};
 ghost use Rattle.protobuf_parse_options.specs.OptionFields.{field_named, names_message};
 ghost use Rattle.protobuf_parse_options.specs.OptionFields.{number_of_value};
 
 use crate::known_files::KnownFiles;
-use crate::spots::{field_of, first_extension, first_message, number_of};
+use crate::spots::found::{field_of, first_extension, first_message, number_of};
 use protobuf_parse_base::multimap;
 use protobuf_parse_model::{EnumValueDescriptorProto, FieldDescriptorProto, full_name};
 use std::alloc::{AllocError, Global};
@@ -30,7 +30,7 @@ pub fn field_named<'a>(
 {
     field_of(
         &known.reach,
-        multimap::values(&known.places.messages, message),
+        multimap::values(&known.spots.messages, message),
         name,
     )
 }
@@ -54,7 +54,7 @@ pub fn field_among<'a>(
 pub fn is_message(known: &KnownFiles<'_>, name: &str) -> bool
     ensures { result ≡ names_message (files_seen known.now.reach) name.now }
 {
-    first_message(&known.reach, multimap::values(&known.places.messages, name)).is_some()
+    first_message(&known.reach, multimap::values(&known.spots.messages, name)).is_some()
 }
 
 // ---- values of enums
@@ -63,7 +63,7 @@ pub fn is_message(known: &KnownFiles<'_>, name: &str) -> bool
 pub fn number_of_value(known: &KnownFiles<'_>, enum_name: &str, name: &str) -> Option<i32>
     ensures { result ≡ number_of_value (files_seen known.now.reach) enum_name.now name.now }
 {
-    let enums = multimap::values(&known.places.enums, enum_name);
+    let enums = multimap::values(&known.spots.enums, enum_name);
     number_of(&known.reach, enums, name)
 }
 
@@ -114,6 +114,6 @@ fn declared<'a>(known: &KnownFiles<'a>, name: &str) -> Option<&'a FieldDescripto
 {
     first_extension(
         &known.sight,
-        multimap::values(&known.places.extensions, name),
+        multimap::values(&known.spots.extensions, name),
     )
 }

@@ -1,232 +1,142 @@
-//! What stands at places, in the files that are picked.
+//! Where files declare messages, enums and extensions, by their full names.
 
-ghost use Rattle.std.specs.Prelude.{◌≡◌, map, option_map, slice_get};
-ghost use Rattle.protobuf_parse_model.specs.Descriptors.{enum_value_view, enum_view, field_view};
-ghost use Rattle.protobuf_parse_model.specs.Descriptors.{message_view, parts_seen};
-ghost use Rattle.protobuf_parse_options.specs.Holding.{at_spot, at_spots, enum_seen, field_there};
-ghost use Rattle.protobuf_parse_options.specs.Holding.{file_numbered, file_seen, found_by};
-ghost use Rattle.protobuf_parse_options.specs.Holding.{inside_of};
-ghost use Rattle.protobuf_parse_options.specs.Holding.{members_view, message_seen, number_there};
-ghost use Rattle.protobuf_parse_options.specs.Holding.{option_join, spot_view};
-ghost use Rattle.protobuf_parse_options.specs.Known.{field_seen};
-ghost use Rattle.protobuf_parse_options.specs.ByName.{first};
-ghost use Rattle.protobuf_parse_options.specs.Places.{enums_inside, extensions_inside};
-ghost use Rattle.protobuf_parse_options.specs.Places.{messages_inside};
-ghost use Rattle.protobuf_parse_options.specs.Positions.{field_by, number_by, value_number};
+ghost use Rattle.std.specs.Prelude.{◌≡◌, ◌++◌, ◌∷◌, [], List, length, map};
+ghost use Rattle.std.specs.Prelude.{OnOk};
+ghost use Rattle.std.specs.Int.{w32};
+ghost use Rattle.std.specs.Int.RustNames.{FitsSigned};
+ghost use Rattle.protobuf_parse_model.specs.Descriptors.{FileDescriptor, Text, enum_value_view};
+ghost use Rattle.protobuf_parse_model.specs.Descriptors.{file_view};
+ghost use Rattle.protobuf_parse_options.specs.Holding.{AddsSpots, Holds, spots_of_list};
+ghost use Rattle.protobuf_parse_options.specs.Views.{enum_declared};
+ghost use Rattle.protobuf_parse_options.specs.SmallValues.{AreSmall, HaveSmall};
 
-use crate::lookup::{field_among, number_among};
-use crate::members::{Members, members_down};
-use crate::picked_files::PickedFiles;
-use crate::places::DeclaredPlace;
-use crate::positions::FEW;
-use protobuf_parse_model::{
-    DescriptorProto, EnumDescriptorProto, EnumValueDescriptorProto, FieldDescriptorProto,
-    FileDescriptorProto,
-};
+pub mod declared;
+pub mod found;
+pub mod members;
+pub mod parts;
+pub mod picked;
 
-/// The file with the number, if it is among them.
-fn file_numbered<'a>(picked: &PickedFiles<'a>, number: u32) -> Option<&'a FileDescriptorProto>
-    ensures { option_map file_seen result ≡ file_numbered picked.now number }
-{
-    match picked.numbers.binary_search(&number) {
-        Ok(position) => file_at(picked.files, position),
-        Err(_) => None,
-    }
+use crate::spots::declared::Spotted;
+use crate::spots::parts::HasParts;
+pub use picked::PickedFiles;
+use protobuf_parse_base::multimap;
+use protobuf_parse_model::{EnumDescriptorProto, EnumValueDescriptorProto, FileDescriptorProto};
+use std::alloc::{AllocError, Global};
+use std::collections::BTreeMap;
+
+/// Where something is declared.
+#[derive(Debug, Drop)]
+pub struct Spot {
+    /// The number of the file.
+    pub file: u32,
+    /// The way to the message around it: the number of a message in its list, then that of a
+    /// message in it, and so on. Empty for what stands in no message.
+    pub path: Vec<usize>,
+    /// Its number in its list.
+    pub index: usize,
+    /// The positions of the fields of a message and of the values of an enum, where they are more
+    /// than a few: the first of each name.
+    pub positions: BTreeMap<String, usize>,
 }
 
-fn file_at<'a>(
-    files: &[Option<&'a FileDescriptorProto>],
-    position: usize,
-) -> Option<&'a FileDescriptorProto>
-    ensures { option_map file_seen result ≡ option_join (slice_get
-        (map (option_map file_seen) files.now) position) }
-{
-    match files.get(position) {
-        Some(file) => *file,
-        None => None,
-    }
+/// Where the files of a run declare messages, enums and extensions: the spots of each full name,
+/// which has its first dot, in the order of the files.
+#[derive(Debug, Drop)]
+pub struct Spots {
+    pub(crate) messages: BTreeMap<String, Vec<Spot>>,
+    pub(crate) enums: BTreeMap<String, Vec<Spot>>,
+    pub(crate) extensions: BTreeMap<String, Vec<Spot>>,
 }
 
-fn members_at<'a>(picked: &PickedFiles<'a>, place: &DeclaredPlace) -> Option<Members<'a>>
-    ensures { option_map members_view result ≡ inside_of
-        (file_numbered picked.now place.now.file) place.now.path.items }
-{
-    match file_numbered(picked, place.file) {
-        Some(file) => members_down(file, &place.path),
-        None => None,
-    }
-}
-
-fn message_at<'a>(picked: &PickedFiles<'a>, place: &DeclaredPlace) -> Option<&'a DescriptorProto>
-    ensures { option_map message_seen result ≡ at_spot messages_inside picked.now
-        (spot_view place.now) }
-{
-    match members_at(picked, place) {
-        Some(members) => members.messages.get(place.index),
-        None => None,
-    }
-}
-
-fn enum_at<'a>(picked: &PickedFiles<'a>, place: &DeclaredPlace) -> Option<&'a EnumDescriptorProto>
-    ensures { option_map enum_seen result ≡ at_spot enums_inside picked.now (spot_view place.now) }
-{
-    match members_at(picked, place) {
-        Some(members) => members.enums.get(place.index),
-        None => None,
-    }
-}
-
-fn extension_at<'a>(
-    picked: &PickedFiles<'a>,
-    place: &DeclaredPlace,
-) -> Option<&'a FieldDescriptorProto>
-    ensures { option_map field_seen result ≡ at_spot extensions_inside picked.now
-        (spot_view place.now) }
-{
-    match members_at(picked, place) {
-        Some(members) => members.extensions.get(place.index),
-        None => None,
-    }
-}
-
-// ---- the first of several places
-
-/// The first message that stands at one of the places.
-pub fn first_message<'a>(
-    picked: &PickedFiles<'a>,
-    places: &[DeclaredPlace],
-) -> Option<&'a DescriptorProto>
-    ensures { option_map message_seen result ≡ first
-        (at_spots messages_inside picked.now (map spot_view places.now)) }
-{
-    'places: for place in places {
-        let message = message_at(picked, place);
-        if message.is_some() {
-            return message;
+impl Spots {
+    /// No spots.
+    pub fn new(alloc: Global) -> Self
+        ensures { Holds result [] }
+    {
+        Spots {
+            messages: BTreeMap::new(alloc),
+            enums: BTreeMap::new(alloc),
+            extensions: BTreeMap::new(alloc),
         }
     }
-    None
-}
 
-/// The first extension that stands at one of the places.
-pub fn first_extension<'a>(
-    picked: &PickedFiles<'a>,
-    places: &[DeclaredPlace],
-) -> Option<&'a FieldDescriptorProto>
-    ensures { option_map field_seen result ≡ first
-        (at_spots extensions_inside picked.now (map spot_view places.now)) }
-{
-    'places: for place in places {
-        let extension = extension_at(picked, place);
-        if extension.is_some() {
-            return extension;
-        }
-    }
-    None
-}
-
-/// The first field of that name in the messages at the places.
-pub fn field_of<'a>(
-    picked: &PickedFiles<'a>,
-    places: &[DeclaredPlace],
-    name: &str,
-) -> Option<&'a FieldDescriptorProto>
-    ensures { option_map field_seen result
-        ≡ found_by (field_there picked.now name.now) (map spot_view places.now) }
-{
-    'places: for place in places {
-        let field = field_at(picked, place, name);
-        if field.is_some() {
-            return field;
-        }
-    }
-    None
-}
-
-fn field_at<'a>(
-    picked: &PickedFiles<'a>,
-    place: &DeclaredPlace,
-    name: &str,
-) -> Option<&'a FieldDescriptorProto>
-    ensures { option_map field_seen result ≡ field_there picked.now name.now (spot_view place.now) }
-{
-    match message_at(picked, place) {
-        Some(message) => field_in(message, place, name),
-        None => None,
+    /// Adds the spots of what the next file declares, which has that number.
+    /// The one error is that memory is short: nothing is known of the spots then.
+    pub fn add(
+        &mut self,
+        alloc: Global,
+        file: u32,
+        descriptor: &FileDescriptorProto,
+    ) -> Result<(), AllocError>
+        ensures { OnOk result ((files : List FileDescriptor) → length files ≡ file →
+            Holds self.old files → Holds self.new (files ++ file_view descriptor.now ∷ [])) }
+    {
+        let messages = declared::messages_of(alloc, descriptor)?;
+        let enums = declared::enums_of(alloc, descriptor, &messages)?;
+        let extensions = declared::extensions_declared(alloc, descriptor, &messages)?;
+        read_enums(&enums);
+        put_all(&mut self.messages, alloc, file, &messages)?;
+        put_all(&mut self.enums, alloc, file, &enums)?;
+        put_all(&mut self.extensions, alloc, file, &extensions)
     }
 }
 
-/// The first field of that name in the message, which stands at the place.
-fn field_in<'a>(
-    message: &'a DescriptorProto,
-    place: &DeclaredPlace,
-    name: &str,
-) -> Option<&'a FieldDescriptorProto>
-    ensures { option_map field_seen result ≡ field_by (spot_view place.now).position
-        (parts_seen (message_view message.now)).field name.now }
+/// Puts the spots of what a file declares under the full names, behind what stands there.
+fn put_all<T: HasParts>(
+    spots: &mut BTreeMap<String, Vec<Spot>>,
+    alloc: Global,
+    file: u32,
+    list: &[Spotted<&T>],
+) -> Result<(), AllocError>
+    ensures { OnOk result (AddsSpots spots.old spots.new
+        (λ (name : Text). spots_of_list T.part_names file name list.now)) }
 {
-    field_by(&message.field, place, name)
+    'items: for spotted in list {
+        put(spots, alloc, file, spotted)?;
+    }
+    Ok(())
 }
 
-fn field_by<'a>(
-    fields: &'a [FieldDescriptorProto],
-    place: &DeclaredPlace,
-    name: &str,
-) -> Option<&'a FieldDescriptorProto>
-    ensures { option_map field_seen result ≡ field_by (spot_view place.now).position
-        (map field_view fields.now) name.now }
+fn put<T: HasParts>(
+    spots: &mut BTreeMap<String, Vec<Spot>>,
+    alloc: Global,
+    file: u32,
+    spotted: &Spotted<&T>,
+) -> Result<(), AllocError>
+    ensures { OnOk result (AddsSpots spots.old spots.new
+        (λ (name : Text). spots_of_list T.part_names file name (spotted.now ∷ []))) }
 {
-    if fields.len() <= FEW {
-        return field_among(fields, name);
-    }
-    match place.positions.get(name) {
-        Some(position) => fields.get(*position),
-        None => None,
-    }
+    let spot = Spot {
+        file,
+        path: declared::copied(alloc, &spotted.path)?,
+        index: spotted.index,
+        positions: spotted.what.positions(alloc)?,
+    };
+    multimap::put(spots, spotted.name.clone()?, spot)
 }
 
-/// The number of the first value of that name in the enums at the places.
-pub fn number_of(picked: &PickedFiles<'_>, places: &[DeclaredPlace], name: &str) -> Option<i32>
-    ensures { result ≡ found_by (number_there picked.now name.now) (map spot_view places.now) }
-{
-    'places: for place in places {
-        let number = number_at(picked, place, name);
-        if number.is_some() {
-            return number;
-        }
-    }
-    None
-}
+// ---- numbers of enums' values
 
-fn number_at(picked: &PickedFiles<'_>, place: &DeclaredPlace, name: &str) -> Option<i32>
-    ensures { result ≡ number_there picked.now name.now (spot_view place.now) }
+/// Reads the number of each value. It has 32 bits, as its type says; the encoder asks it of all of
+/// them.
+fn read_enums(enums: &[Spotted<&EnumDescriptorProto>])
+    ensures { HaveSmall (map enum_declared enums.now) }
 {
-    match enum_at(picked, place) {
-        Some(known) => number_in(known, place, name),
-        None => None,
+    'enums: for spotted in enums {
+        read_values(&spotted.what.value);
     }
 }
 
-/// The number of the first value of that name in the enum, which stands at the place.
-fn number_in(known: &EnumDescriptorProto, place: &DeclaredPlace, name: &str) -> Option<i32>
-    ensures { result ≡ number_by (spot_view place.now).position (enum_view known.now).value
-        name.now }
+fn read_values(values: &[EnumValueDescriptorProto])
+    ensures { AreSmall (map enum_value_view values.now) }
 {
-    if known.value.len() <= FEW {
-        return number_among(&known.value, name);
-    }
-    match place.positions.get(name) {
-        Some(position) => number_at_position(&known.value, *position),
-        None => None,
+    'values: for value in values {
+        read_number(value);
     }
 }
 
-fn number_at_position(values: &[EnumValueDescriptorProto], position: usize) -> Option<i32>
-    ensures { result ≡ option_map value_number (slice_get (map enum_value_view values.now)
-        position) }
+fn read_number(value: &EnumValueDescriptorProto)
+    ensures { FitsSigned w32 value.now.number }
 {
-    match values.get(position) {
-        Some(value) => Some(value.number),
-        None => None,
-    }
+    let _number = value.number;
 }

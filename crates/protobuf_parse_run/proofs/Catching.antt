@@ -1,4 +1,4 @@
--- The index of places, as it is caught up with the loaded files.
+-- The index of spots, as it is caught up with the loaded files.
 use Rattle.std.proofs.Common.{◌≡◌, ℕ, ◌+◌, ◌≤◌, List, [], ◌∷◌, ◌++◌, map, length, Option}
 use Rattle.std.proofs.Common.{option_map, Some, refl, sym, ap, ◌∙◌, arith, append-nil, append_assoc}
 use Rattle.std.proofs.Common.{subst, slice_get, length-append, flat_map}
@@ -10,15 +10,15 @@ use Rattle.protobuf_parse_model.specs.declared.descriptor.FileDescriptorProto.{F
 use Rattle.protobuf_parse_options.specs.Holding.{Holds}
 use Rattle.protobuf_parse_run.specs.Loading.{IndexBegins, LoadedEntry, IsWhole, picked_plains}
 use Rattle.protobuf_parse_run.specs.Loading.{plain_in, plain_seen, plains_with}
-use Rattle.protobuf_parse_run.specs.declared.tables.RunPlaces.{RunPlaces}
+use Rattle.protobuf_parse_run.specs.declared.tables.RunSpots.{RunSpots}
 
 -- the descriptors that the code's list has
 abbrev pub listed : List (Option (Bor FileDescriptorProto)) → List FileDescriptor
 listed fs = flat_map option_to_list (map (option_map plain_seen) fs)
 
-pub whole-begins : (places : RunPlaces) (plains : List FileDescriptor) → IsWhole places plains
-    → IndexBegins places plains
-whole-begins places plains whole = record {
+pub whole-begins : (spots : RunSpots) (plains : List FileDescriptor) → IsWhole spots plains
+    → IndexBegins spots plains
+whole-begins spots plains whole = record {
   front = plains;
   rest = [];
   split = sym (append-nil plains);
@@ -26,9 +26,9 @@ whole-begins places plains whole = record {
 }
 
 -- a file more that isn't in it
-pub begins-more : (places : RunPlaces) (plains : List FileDescriptor) (d : FileDescriptor)
-    → IndexBegins places plains → IndexBegins places (plains ++ d ∷ [])
-begins-more places plains d b = record {
+pub begins-more : (spots : RunSpots) (plains : List FileDescriptor) (d : FileDescriptor)
+    → IndexBegins spots plains → IndexBegins spots (plains ++ d ∷ [])
+begins-more spots plains d b = record {
   front = b.front;
   rest = b.rest ++ d ∷ [];
   split = ap (λ ps. ps ++ d ∷ []) b.split ∙ append_assoc b.front b.rest (d ∷ []);
@@ -46,7 +46,7 @@ first-of [] x e = absurd cc
 first-of (y ∷ rest) x e = let same : y ≡ x = cc in (rest, ap (λ z. z ∷ rest) same)
 
 -- the next of the files
-pub begins-next : (old new : RunPlaces) (plains : List FileDescriptor) (d : FileDescriptor)
+pub begins-next : (old new : RunSpots) (plains : List FileDescriptor) (d : FileDescriptor)
     (b : IndexBegins old plains) → slice_get plains old.files ≡ Some d
     → ((files : List FileDescriptor) → length files ≡ old.files → Holds old.declared files
     → Holds new.declared (files ++ d ∷ []))
@@ -72,18 +72,18 @@ none-left [] e = refl
 none-left (x ∷ rest) e = absurd (omega (arith, e))
 
 -- an index that counts as many files as there are has them all
-pub whole-at : (places : RunPlaces) (plains : List FileDescriptor) → IndexBegins places plains
-    → length plains ≤ places.files → IsWhole places plains
-whole-at places plains b le =
+pub whole-at : (spots : RunSpots) (plains : List FileDescriptor) → IndexBegins spots plains
+    → length plains ≤ spots.files → IsWhole spots plains
+whole-at spots plains b le =
     let whole = b.whole in
     let count = whole.count in
     let lengths = ap length b.split ∙ length-append b.front b.rest in
     let none : b.rest ≡ [] = none-left b.rest (omega (arith, le, count, lengths)) in
     let same : b.front ≡ plains = sym (b.split ∙ ap (λ r. b.front ++ r) none
     ∙ append-nil b.front) in
-    subst (λ (ps : List FileDescriptor). IsWhole places ps) same whole
+    subst (λ (ps : List FileDescriptor). IsWhole spots ps) same whole
 
-pub next-whole : (old new : RunPlaces) (plains : List FileDescriptor) (d : FileDescriptor) (n : ℕ)
+pub next-whole : (old new : RunSpots) (plains : List FileDescriptor) (d : FileDescriptor) (n : ℕ)
     → IndexBegins old plains → length plains ≤ old.files → length plains ≡ n
     → ((files : List FileDescriptor) → length files ≡ n → Holds old.declared files
     → Holds new.declared (files ++ d ∷ []))

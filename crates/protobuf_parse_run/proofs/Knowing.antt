@@ -267,7 +267,7 @@ module _ (gathers : Bool) (path : Text) (tree : FileSyntax) (height read : ℕ)
   pub known-push : AreKnown new after log
   known-push = rw a.entries (record {
     tells = subst (TableTells after.names) (sym trees-are) a.tells;
-    begins = subst (λ (es : List LoadedEntry). IndexBegins after.places (map plain_in es)) a.entries
+    begins = subst (λ (es : List LoadedEntry). IndexBegins after.spots (map plain_in es)) a.entries
         a.begins;
     once = subst AreDistinct (sym paths-are) (once-push old path tree known.once none);
     reach = all-hold-push Reaches held_as.Reach old x known.reach
@@ -336,7 +336,7 @@ unloaded-push chain loaded x q u is off p on =
 -- ** no file
 
 pub known-none : (loaded : List LoadedEntry) (tables : Tables) (log : List ReadEntry) → loaded ≡ []
-    → TableTells tables.names [] → IndexBegins tables.places [] → AreKnown loaded tables log
+    → TableTells tables.names [] → IndexBegins tables.spots [] → AreKnown loaded tables log
 known-none loaded tables log none tells begins = rw none (record {
   tells = tells;
   begins = begins;

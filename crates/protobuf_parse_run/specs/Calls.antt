@@ -81,7 +81,7 @@ KnowsFiles loader = AreKnown loader.loaded.entries loader.tables loader.reads.it
 
 -- The index of what custom options name has the first of the loaded files.
 abbrev pub HasIndex : Loader → Type 0
-HasIndex loader = IndexBegins loader.tables.places (map plain_in loader.loaded.entries)
+HasIndex loader = IndexBegins loader.tables.spots (map plain_in loader.loaded.entries)
 
 -- Where each text that was read had one tree or none, so has each that is read by now.
 abbrev pub StaysDecided : {R I : Type 0} → Sources R I → Loader → Loader → Type 0

@@ -32,7 +32,7 @@ use Rattle.protobuf_parse_run.specs.declared.describe.Described.{Described}
 use Rattle.protobuf_parse_run.specs.declared.loader.LoadedFile.{LoadedFile}
 use Rattle.protobuf_parse_run.specs.declared.loader.LoadedAs.{LoadedAs}
 use Rattle.protobuf_parse_run.specs.declared.reach.Held.{Held}
-use Rattle.protobuf_parse_run.specs.declared.tables.RunPlaces.{RunPlaces}
+use Rattle.protobuf_parse_run.specs.declared.tables.RunSpots.{RunSpots}
 use Rattle.protobuf_parse_run.specs.declared.tables.Tables.{Tables}
 use Rattle.protobuf_parse_run.specs.declared.reach.Held.TheVariants as held_as
 use Rattle.protobuf_parse_run.specs.declared.log.FileReport.{FileReport}
@@ -92,16 +92,16 @@ abbrev pub plains_with : List LoadedEntry → FileDescriptor → List FileDescri
 plains_with loaded d = map plain_in loaded ++ d ∷ []
 
 -- The index has just the files, as many as it counts.
-pub record IsWhole (places : RunPlaces) (plains : List FileDescriptor) : Type 0 where
-  pub holds : Holds places.declared plains
-  pub count : length plains ≡ places.files
+pub record IsWhole (spots : RunSpots) (plains : List FileDescriptor) : Type 0 where
+  pub holds : Holds spots.declared plains
+  pub count : length plains ≡ spots.files
 
 -- The index has the first of the files.
-pub record IndexBegins (places : RunPlaces) (plains : List FileDescriptor) : Type 0 where
+pub record IndexBegins (spots : RunSpots) (plains : List FileDescriptor) : Type 0 where
   pub front : List FileDescriptor
   pub rest : List FileDescriptor
   pub split : plains ≡ front ++ rest
-  pub whole : IsWhole places front
+  pub whole : IsWhole spots front
 
 -- ---- the numbers of loaded files
 
@@ -162,7 +162,7 @@ AllHold R which loaded =
 pub record AreKnown (loaded : List LoadedEntry) (tables : Tables)
     (log : List ReadEntry) : Type 0 where
   pub tells : TableTells tables.names (trees_of (named_trees loaded))
-  pub begins : IndexBegins tables.places (map plain_in loaded)
+  pub begins : IndexBegins tables.spots (map plain_in loaded)
   pub once : AreDistinct (paths_in (named_trees loaded))
   pub reach : AllHold Reaches held_as.Reach loaded
   pub handed_on : AllHold HandsOn held_as.HandedOn loaded
@@ -535,7 +535,7 @@ pub record IsAddedOver (gathers : Bool) (path : Text) (tree : FileSyntax) (heigh
       (any_faulty old file.reach.items file.faulty) tree
   pub plain : plain_or file.plain file.descriptor ≡ plain_over (with_next old tree) sight path tree
   pub tells : TableTells tables.names (with_next old tree)
-  pub begins : IndexBegins tables.places (map plain_in new)
+  pub begins : IndexBegins tables.spots (map plain_in new)
   pub height_placed : placed.height ≡ height
   pub number_placed : placed.number ≡ length old
 

@@ -19,12 +19,12 @@ ghost use Rattle.protobuf_parse_run.specs.Loading.{plain_seen, plains_with};
 
 use crate::loaded::LoadedFiles;
 use crate::reach::Sights;
-use crate::tables::{RunPlaces, Tables, add_next, plain_of};
+use crate::tables::{RunSpots, Tables, add_next, plain_of};
 use protobuf_parse_elaboration::{elaborate, elaborate_all, elaborate_all_owned, elaborate_owned};
 use protobuf_parse_model::{
     ElabError, ElabFailure, FileDescriptorProto, Seen, WithoutCustoms, link,
 };
-use protobuf_parse_options::{DeclaredPlaces, KnownFiles, PickedFiles, has_custom_option};
+use protobuf_parse_options::{Spots, KnownFiles, PickedFiles, has_custom_option};
 use protobuf_parse_syntax::FileTree;
 use std::alloc::{AllocError, Global};
 
@@ -53,12 +53,12 @@ pub fn elaborated(
     requires few { statements_in (file_syntax tree) ≤ 2147483647 }
     requires reach { IsStrictlyIncreasing sights.now.reach.items }
     requires sight { IsStrictlyIncreasing sights.now.sight.items }
-    requires begins { IndexBegins tables.old.places (map plain_in loaded.now.entries) }
+    requires begins { IndexBegins tables.old.spots (map plain_in loaded.now.entries) }
     ensures names { tables.new.names ≡ tables.old.names }
     ensures describes { (files : List FileSyntax) → TableTells tables.old.names files
         → Describes false loaded.now.entries files sights.now.reach.items sights.now.sight.items path.now
         (file_syntax tree) result }
-    ensures begins { IfOk result (λ d. IndexBegins tables.new.places
+    ensures begins { IfOk result (λ d. IndexBegins tables.new.spots
         (plains_with loaded.now.entries (plain_or d.plain d.descriptor))) }
 {
     let seen = Seen {
@@ -68,7 +68,7 @@ pub fn elaborated(
     };
     link(alloc, &seen)?;
     if has_custom_option(&tree) {
-        with_customs(alloc, loaded, &mut tables.places, &seen, path, tree)
+        with_customs(alloc, loaded, &mut tables.spots, &seen, path, tree)
     } else {
         let descriptor = elaborate_owned(alloc, path, tree, &seen, &WithoutCustoms)?;
         Ok(Described {
@@ -93,12 +93,12 @@ pub fn checked(
     requires few { statements_in (file_syntax tree) ≤ 2147483647 }
     requires reach { IsStrictlyIncreasing sights.now.reach.items }
     requires sight { IsStrictlyIncreasing sights.now.sight.items }
-    requires begins { IndexBegins tables.old.places (map plain_in loaded.now.entries) }
+    requires begins { IndexBegins tables.old.spots (map plain_in loaded.now.entries) }
     ensures names { tables.new.names ≡ tables.old.names }
     ensures describes { (files : List FileSyntax) → TableTells tables.old.names files
         → Describes true loaded.now.entries files sights.now.reach.items sights.now.sight.items
         path.now (file_syntax tree) result }
-    ensures begins { IfOk result (λ d. IndexBegins tables.new.places
+    ensures begins { IfOk result (λ d. IndexBegins tables.new.spots
         (plains_with loaded.now.entries (plain_or d.plain d.descriptor))) }
 {
     let seen = Seen {
@@ -110,12 +110,12 @@ pub fn checked(
     let mut faults = Vec::new(alloc);
     let plain = elaborate_all(alloc, &mut faults, path, &tree, &seen, &WithoutCustoms)?;
     let faulty = !faults.is_empty();
-    let places = &mut tables.places;
+    let spots = &mut tables.spots;
     tell_further(
         alloc,
         &mut faults,
         loaded,
-        places,
+        spots,
         &seen,
         &plain,
         path,
@@ -135,15 +135,15 @@ fn tell_further(
     alloc: Global,
     faults: &mut Vec<ElabError>,
     loaded: &LoadedFiles,
-    places: &mut RunPlaces,
+    spots: &mut RunSpots,
     seen: &Seen<'_>,
     plain: &FileDescriptorProto,
     path: &str,
     tree: FileTree,
 ) -> Result<(), AllocError>
     requires few { statements_in (file_syntax tree) ≤ 2147483647 }
-    requires begins { IndexBegins places.old (map plain_in loaded.now.entries) }
-    ensures begins { OnOk result (IndexBegins places.new
+    requires begins { IndexBegins spots.old (map plain_in loaded.now.entries) }
+    ensures begins { OnOk result (IndexBegins spots.new
         (plains_with loaded.now.entries (described.file_view plain.now))) }
     ensures told { (files : List FileSyntax) → TableTells seen.now.declarations.now files
         → let plains = plains_with loaded.now.entries (described.file_view plain.now) in
@@ -159,12 +159,12 @@ fn tell_further(
     if !has_custom_option(&tree) {
         return Ok(());
     }
-    add_next(places, alloc, loaded, plain)?;
+    add_next(spots, alloc, loaded, plain)?;
     tell_customs(
         alloc,
         faults,
         loaded,
-        &places.declared,
+        &spots.declared,
         seen,
         plain,
         path,
@@ -200,14 +200,14 @@ fn tell_customs(
     alloc: Global,
     faults: &mut Vec<ElabError>,
     loaded: &LoadedFiles,
-    places: &DeclaredPlaces,
+    spots: &Spots,
     seen: &Seen<'_>,
     plain: &FileDescriptorProto,
     path: &str,
     tree: FileTree,
 ) -> Result<(), AllocError>
     requires few { statements_in (file_syntax tree) ≤ 2147483647 }
-    requires holds { Holds places.now
+    requires holds { Holds spots.now
         (plains_with loaded.now.entries (described.file_view plain.now)) }
     ensures { (files : List FileSyntax) → TableTells seen.now.declarations.now files
         → let plains = plains_with loaded.now.entries (described.file_view plain.now) in
@@ -226,7 +226,7 @@ fn tell_customs(
         numbers: seen.sight,
         files: &visible,
     };
-    let known = KnownFiles::new(places, reach, sight);
+    let known = KnownFiles::new(spots, reach, sight);
     elaborate_all_owned(alloc, faults, path, tree, seen, &known)?;
     Ok(())
 }
@@ -236,23 +236,23 @@ fn tell_customs(
 fn with_customs(
     alloc: Global,
     loaded: &LoadedFiles,
-    places: &mut RunPlaces,
+    spots: &mut RunSpots,
     seen: &Seen<'_>,
     path: &str,
     tree: FileTree,
 ) -> Result<Described, ElabFailure>
     requires few { statements_in (file_syntax tree) ≤ 2147483647 }
-    requires begins { IndexBegins places.old (map plain_in loaded.now.entries) }
+    requires begins { IndexBegins spots.old (map plain_in loaded.now.entries) }
     ensures describes { (files : List FileSyntax) → TableTells seen.now.declarations.now files
         → link_faults (picked files seen.now.reach.now) ≡ []
         → Describes false loaded.now.entries files seen.now.reach.now seen.now.sight.now path.now
         (file_syntax tree) result }
-    ensures begins { IfOk result (λ d. IndexBegins places.new
+    ensures begins { IfOk result (λ d. IndexBegins spots.new
         (plains_with loaded.now.entries (plain_or d.plain d.descriptor))) }
 {
     let plain = elaborate(alloc, path, &tree, seen, &WithoutCustoms)?;
-    add_next(places, alloc, loaded, &plain)?;
-    let descriptor = spelled(alloc, loaded, &places.declared, seen, &plain, path, tree)?;
+    add_next(spots, alloc, loaded, &plain)?;
+    let descriptor = spelled(alloc, loaded, &spots.declared, seen, &plain, path, tree)?;
     Ok(Described {
         descriptor,
         plain: Some(plain),
@@ -265,14 +265,14 @@ fn with_customs(
 fn spelled(
     alloc: Global,
     loaded: &LoadedFiles,
-    places: &DeclaredPlaces,
+    spots: &Spots,
     seen: &Seen<'_>,
     plain: &FileDescriptorProto,
     path: &str,
     tree: FileTree,
 ) -> Result<FileDescriptorProto, ElabFailure>
     requires few { statements_in (file_syntax tree) ≤ 2147483647 }
-    requires holds { Holds places.now
+    requires holds { Holds spots.now
         (plains_with loaded.now.entries (described.file_view plain.now)) }
     ensures { (files : List FileSyntax) → TableTells seen.now.declarations.now files
         → let plains = plains_with loaded.now.entries (described.file_view plain.now) in
@@ -291,7 +291,7 @@ fn spelled(
         numbers: seen.sight,
         files: &visible,
     };
-    let known = KnownFiles::new(places, reach, sight);
+    let known = KnownFiles::new(spots, reach, sight);
     elaborate_owned(alloc, path, tree, seen, &known)
 }
 

@@ -161,7 +161,7 @@ pub fn load_inputs<R: ProtoPathResolver, I: InputReader>(
 ) -> Result<(), RunFault>
     requires loaded { loader.old.loaded.entries ≡ [] }
     requires names { TableTells loader.old.tables.names [] }
-    requires places { IndexBegins loader.old.tables.places [] }
+    requires spots { IndexBegins loader.old.tables.spots [] }
     requires reads { loader.old.reads.items ≡ [] }
     requires chain { loader.old.chain.items ≡ [] }
     requires meets { loader.old.meets ≡ 0 }
@@ -672,7 +672,7 @@ fn descriptor_of(
         (ending_over gathers files
         (plains_over loader.old.loaded.entries files sights.now.sight.items path.now t)
         sights.now.reach.items sights.now.sight.items t) f)) }
-    ensures begins { IfOk result (λ d. IndexBegins loader.new.tables.places
+    ensures begins { IfOk result (λ d. IndexBegins loader.new.tables.spots
         (plains_with loader.old.loaded.entries (plain_or d.plain d.descriptor))) }
 {
     match described(alloc, loader, gathers, sights, path, tree) {
@@ -703,7 +703,7 @@ fn described(
     ensures describes { (files : List FileSyntax) → TableTells loader.old.tables.names files
         → Describes gathers loader.old.loaded.entries files sights.now.reach.items
         sights.now.sight.items path.now (file_syntax tree) result }
-    ensures begins { IfOk result (λ d. IndexBegins loader.new.tables.places
+    ensures begins { IfOk result (λ d. IndexBegins loader.new.tables.spots
         (plains_with loader.old.loaded.entries (plain_or d.plain d.descriptor))) }
 {
     if gathers {

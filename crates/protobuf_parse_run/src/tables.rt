@@ -9,7 +9,7 @@ ghost use Rattle.protobuf_parse_run.specs.Loading.{plains_with};
 use crate::loaded::LoadedFiles;
 use crate::loader::LoadedFile;
 use protobuf_parse_model::{Declarations, FileDescriptorProto};
-use protobuf_parse_options::DeclaredPlaces;
+use protobuf_parse_options::Spots;
 use std::alloc::{AllocError, Global};
 
 /// What the loaded files declare.
@@ -17,14 +17,14 @@ use std::alloc::{AllocError, Global};
 pub struct Tables {
     /// Their names, by the numbers of the files.
     pub names: Declarations,
-    pub places: RunPlaces,
+    pub spots: RunSpots,
 }
 
 /// Where files of a run declare what custom options name. It is caught up with the loaded files
 /// when one comes that sets custom options.
 #[derive(Drop)]
-pub struct RunPlaces {
-    pub declared: DeclaredPlaces,
+pub struct RunSpots {
+    pub declared: Spots,
     /// How many files are in it: the first ones, by their descriptors without custom options.
     pub files: u32,
 }
@@ -33,12 +33,12 @@ impl Tables {
     /// Of no files.
     pub fn new(alloc: Global) -> Self
         ensures names { TableTells result.names [] }
-        ensures places { IndexBegins result.places [] }
+        ensures spots { IndexBegins result.spots [] }
     {
         Tables {
             names: Declarations::new(alloc),
-            places: RunPlaces {
-                declared: DeclaredPlaces::new(alloc),
+            spots: RunSpots {
+                declared: Spots::new(alloc),
                 files: 0,
             },
         }
@@ -48,36 +48,36 @@ impl Tables {
 /// Adds the loaded files that aren't in it, and then the next file, of which `own` is the
 /// descriptor without custom options.
 pub fn add_next(
-    places: &mut RunPlaces,
+    spots: &mut RunSpots,
     alloc: Global,
     loaded: &LoadedFiles,
     own: &FileDescriptorProto,
 ) -> Result<(), AllocError>
-    requires begins { IndexBegins places.old (map plain_in loaded.now.entries) }
-    ensures { OnOk result (IsWhole places.new
+    requires begins { IndexBegins spots.old (map plain_in loaded.now.entries) }
+    ensures { OnOk result (IsWhole spots.new
         (plains_with loaded.now.entries (described.file_view own.now))) }
 {
-    'files: while places.files < loaded.len() {
-        add_loaded(places, alloc, loaded)?;
+    'files: while spots.files < loaded.len() {
+        add_loaded(spots, alloc, loaded)?;
     }
     let number = loaded.len();
-    places.declared.add(alloc, number, own)?;
-    places.files = number + 1;
+    spots.declared.add(alloc, number, own)?;
+    spots.files = number + 1;
     Ok(())
 }
 
 /// Adds the first loaded file that isn't in it.
-fn add_loaded(places: &mut RunPlaces, alloc: Global, loaded: &LoadedFiles) -> Result<(), AllocError>
-    requires begins { IndexBegins places.old (map plain_in loaded.now.entries) }
-    requires more { places.old.files < length loaded.now.entries }
-    requires room { places.old.files < 2 ^ 31 }
-    ensures begins { OnOk result (IndexBegins places.new (map plain_in loaded.now.entries)) }
-    ensures files { OnOk result (places.new.files ≡ places.old.files + 1) }
+fn add_loaded(spots: &mut RunSpots, alloc: Global, loaded: &LoadedFiles) -> Result<(), AllocError>
+    requires begins { IndexBegins spots.old (map plain_in loaded.now.entries) }
+    requires more { spots.old.files < length loaded.now.entries }
+    requires room { spots.old.files < 2 ^ 31 }
+    ensures begins { OnOk result (IndexBegins spots.new (map plain_in loaded.now.entries)) }
+    ensures files { OnOk result (spots.new.files ≡ spots.old.files + 1) }
 {
-    let number = places.files;
+    let number = spots.files;
     if let Some((_, file)) = loaded.at(number) {
-        places.declared.add(alloc, number, plain_of(file))?;
-        places.files = number + 1;
+        spots.declared.add(alloc, number, plain_of(file))?;
+        spots.files = number + 1;
     }
     Ok(())
 }

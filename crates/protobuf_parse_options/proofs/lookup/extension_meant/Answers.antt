@@ -3,7 +3,7 @@ use Rattle.protobuf_parse_model.specs.Lookup.{declared}
 use Rattle.protobuf_parse_model.proofs.Scopes.{found-here, none-here}
 use Rattle.protobuf_parse_wire.specs.Declarations.{declared_extensions}
 use Rattle.protobuf_parse_options.specs.Holding.{files_seen}
-use Rattle.protobuf_parse_options.specs.Known.{extension_under_name, undeclared}
+use Rattle.protobuf_parse_options.specs.Views.{extension_under_name, undeclared}
 use Rattle.protobuf_parse_options.proofs.lookup.extension_meant.Goals as goal
 
 pub returns-in-Some : goal.returns-in-Some

@@ -1,6 +1,6 @@
 use Rattle.std.proofs.Common.{◌≡◌, map, drop}
 use Rattle.protobuf_parse_model.specs.Descriptors.{field_view}
-use Rattle.protobuf_parse_options.specs.Known.{field_among}
+use Rattle.protobuf_parse_options.specs.Views.{field_among}
 use Rattle.protobuf_parse_options.proofs.lookup.field_among.Given as goal
 
 abbrev pub invariant-fields : goal.invariant-fields

@@ -21,7 +21,7 @@ returns-in_ok-descriptor-clause-describes c files told =
 
 pub returns-in_ok-descriptor-clause-begins : goal.returns-in_ok-descriptor-clause-begins
 returns-in_ok-descriptor-clause-begins c =
-    begins-more c.args.tables.now.places (map plain_in c.args.loaded.now.entries)
+    begins-more c.args.tables.now.spots (map plain_in c.args.loaded.now.entries)
     (described.file_view c.in_ok-descriptor.descriptor) c.requires.begins
 
 pub returns-in_err-descriptor-clause-describes : goal.returns-in_err-descriptor-clause-describes

@@ -18,7 +18,7 @@ loop-input-init g c = record {
   decided = rw c.requires.reads (decided-none (rows c.args.sources.now.bundled.now));
   inside = λ files go. rw (c.requires.loaded, c.requires.reads, events-none files.trees [])
       (good-start _ _ files);
-  known = known-none _ _ _ c.requires.loaded c.requires.names c.requires.places;
+  known = known-none _ _ _ c.requires.loaded c.requires.names c.requires.spots;
   count = λ files go. rw (c.requires.meets, events-none files.trees []) refl;
 }
 

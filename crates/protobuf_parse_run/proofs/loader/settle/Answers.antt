@@ -60,7 +60,7 @@ returns-clause-settles c told none =
       told = is.told;
       tells = rw c.in_ok-described.ensures.names tells;
       begins =
-          subst (λ (ps : List FileDescriptor). IndexBegins c.descriptor_of.new.loader.tables.places
+          subst (λ (ps : List FileDescriptor). IndexBegins c.descriptor_of.new.loader.tables.spots
           ps)
           (plains-push loaded (c.args.path, file) ∙ ap (map plain_in) (sym added.0))
           c.in_ok-described.ensures.begins;

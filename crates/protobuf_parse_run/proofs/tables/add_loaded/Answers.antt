@@ -8,11 +8,11 @@ use Rattle.protobuf_parse_run.proofs.tables.add_loaded.Goals as goal
 pub returns-in_ok-add-clause-begins : goal.returns-in_ok-add-clause-begins
 returns-in_ok-add-clause-begins c =
     let loaded = c.args.loaded.now.entries in
-    let n = c.args.places.now.files in
+    let n = c.args.spots.now.files in
     let d = described.file_view c.plain_of.result.now in
     let entry = rw c.in-Some.is at c.at.ensures in
     let at : slice_get (map plain_in loaded) n ≡ Some d = slice_get-map plain_in loaded n
     ∙ ap (option_map plain_in) (sym entry) ∙ ap Some (sym c.plain_of.ensures) in
-    begins-next c.args.places.now (record { declared = c.add.new.self; files = n + 1 })
+    begins-next c.args.spots.now (record { declared = c.add.new.self; files = n + 1 })
     (map plain_in loaded) d c.requires.begins at
     (λ files len holds. c.in_ok-add.ensures files len holds) refl

@@ -3,7 +3,7 @@ use Rattle.protobuf_parse_run.specs.Loading.{IndexBegins, plain_in}
 use Rattle.protobuf_parse_run.proofs.tables.add_next.Given as goal
 
 abbrev pub invariant-files : goal.invariant-files
-invariant-files l = IndexBegins l.places (map plain_in l.loaded.entries)
+invariant-files l = IndexBegins l.spots (map plain_in l.loaded.entries)
 
 abbrev pub decreases-files : goal.decreases-files
-decreases-files l = length l.loaded.entries - l.places.files
+decreases-files l = length l.loaded.entries - l.spots.files

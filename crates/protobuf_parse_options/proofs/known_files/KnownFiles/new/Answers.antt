@@ -3,19 +3,19 @@ use Rattle.protobuf_parse_model.specs.Descriptors.{FileDescriptor, Text, parts_s
 use Rattle.protobuf_parse_options.specs.ByName.{fields_of_all, values_of_all}
 use Rattle.protobuf_parse_wire.specs.Declarations.{declared_extensions}
 use Rattle.protobuf_parse_options.specs.Holding.{at_spots, field_there, files_seen, found_by}
-use Rattle.protobuf_parse_options.specs.Holding.{number_there, spots_of}
-use Rattle.protobuf_parse_options.specs.Known.{field_among, number_among}
+use Rattle.protobuf_parse_options.specs.Holding.{number_there, spots_in_files}
+use Rattle.protobuf_parse_options.specs.Views.{field_among, number_among}
 use Rattle.protobuf_parse_options.specs.OptionFields.{declared_enums}
 use Rattle.protobuf_parse_options.specs.OptionLaw.{HasSmallValues}
-use Rattle.protobuf_parse_options.specs.Places.{enum_name, enums_inside, extensions_inside}
-use Rattle.protobuf_parse_options.specs.Places.{field_name}
-use Rattle.protobuf_parse_options.specs.Places.{messages_inside, placed_enums, placed_extensions}
-use Rattle.protobuf_parse_options.specs.Places.{placed_messages}
+use Rattle.protobuf_parse_options.specs.Spots.{enum_name, enums_inside, extensions_inside}
+use Rattle.protobuf_parse_options.specs.Spots.{field_name}
+use Rattle.protobuf_parse_options.specs.Spots.{messages_inside, spotted_enums, spotted_extensions}
+use Rattle.protobuf_parse_options.specs.Spots.{spotted_messages}
 use Rattle.protobuf_parse_options.specs.Positions.{extension_parts, field_names, value_names}
 use Rattle.protobuf_parse_options.proofs.ByName.{values_named}
 use Rattle.protobuf_parse_options.proofs.Holding.{all_named, parts_named, seen_is, stands_there}
-use Rattle.protobuf_parse_options.proofs.Placing.{enums_without, extensions_without, messages_stand}
-use Rattle.protobuf_parse_options.proofs.Placing.{placed_stand}
+use Rattle.protobuf_parse_options.proofs.Spotting.{enums_without, extensions_without, messages_stand}
+use Rattle.protobuf_parse_options.proofs.Spotting.{placed_stand}
 use Rattle.protobuf_parse_options.proofs.Positioning.{all_told, fields_found, numbers_found}
 use Rattle.protobuf_parse_options.proofs.SmallValues.{picked_small}
 use Rattle.protobuf_parse_options.proofs.known_files.KnownFiles.new.Goals as goal
@@ -27,30 +27,30 @@ invariant_of-result c =
     let sight = c.args.sight in
     let enums_stand = placed_stand enum_name enums_inside in
     let all_parts = λ (name : Text). ap (map parts_seen) (stands_there field_names messages_inside
-    placed_messages messages_stand name reach k.files k.reached)
+    spotted_messages messages_stand name reach k.files k.reached)
     ∙ parts_named name (files_seen reach) in
     record {
       all_messages = λ name. ap (λ ss. map parts_seen (at_spots messages_inside reach ss))
           (k.holds.messages name) ∙ all_parts name;
       all_fields = λ message name. ap (found_by (field_there reach name)) (k.holds.messages message)
-          ∙ fields_found reach name (spots_of field_names placed_messages message 0 k.files)
-          (all_told field_names messages_inside placed_messages messages_stand message reach k.files
+          ∙ fields_found reach name (spots_in_files field_names spotted_messages message 0 k.files)
+          (all_told field_names messages_inside spotted_messages messages_stand message reach k.files
           k.reached)
           ∙ ap (λ ps. field_among (fields_of_all ps) name) (all_parts message);
       all_values = λ enum_name name. ap (found_by (number_there reach name))
           (k.holds.enums enum_name)
-          ∙ numbers_found reach name (spots_of value_names placed_enums enum_name 0 k.files)
-          (all_told value_names enums_inside placed_enums enums_stand enum_name reach k.files
+          ∙ numbers_found reach name (spots_in_files value_names spotted_enums enum_name 0 k.files)
+          (all_told value_names enums_inside spotted_enums enums_stand enum_name reach k.files
           k.reached)
           ∙ ap (λ es. number_among (values_of_all es) name) (stands_there value_names enums_inside
-          placed_enums enums_stand enum_name reach k.files k.reached
-          ∙ all_named placed_enums declared_enums enums_without enum_name (files_seen reach))
+          spotted_enums enums_stand enum_name reach k.files k.reached
+          ∙ all_named spotted_enums declared_enums enums_without enum_name (files_seen reach))
           ∙ ap (λ vs. number_among vs name)
           (values_named enum_name (flat_map declared_enums (files_seen reach)));
       all_extensions = λ name. ap (at_spots extensions_inside sight) (k.holds.extensions name)
-          ∙ stands_there extension_parts extensions_inside placed_extensions
+          ∙ stands_there extension_parts extensions_inside spotted_extensions
           (placed_stand field_name extensions_inside) name sight k.files k.seen
-          ∙ all_named placed_extensions declared_extensions extensions_without name
+          ∙ all_named spotted_extensions declared_extensions extensions_without name
           (files_seen sight);
       small = subst (λ (fs : List FileDescriptor). HasSmallValues fs)
           (sym (seen_is k.files reach k.reached))

@@ -1,0 +1,8 @@
+use Rattle.std.proofs.Common.{◌≡◌, drop, map}
+use Rattle.protobuf_parse_options.specs.Holding.{found_by, number_there, spot_view}
+use Rattle.protobuf_parse_options.proofs.spots.found.number_of.Given as goal
+
+abbrev pub invariant-spots : goal.invariant-spots
+invariant-spots l =
+    found_by (number_there l.picked l.name) (map spot_view l.spots)
+    ≡ found_by (number_there l.picked l.name) (map spot_view (drop l.spot-index l.spots))
