@@ -13,3 +13,4 @@ pub mod FileParts
 pub mod OptionSets
 pub mod CustomSets
 pub mod Declaring
+pub mod Viewpoints

@@ -13,6 +13,7 @@ ghost use Rattle.protobuf_parse_elaboration.specs.Enums.{enum_faults};
 ghost use Rattle.protobuf_parse_elaboration.specs.Fields.{field_faults, field_statement_faults};
 ghost use Rattle.protobuf_parse_elaboration.specs.Messages.{extend_faults, has_own_oneof};
 ghost use Rattle.protobuf_parse_elaboration.specs.Messages.{oneof_faults};
+ghost use Rattle.protobuf_parse_elaboration.specs.Viewpoints.{seen_from};
 
 use crate::constructs::enumeration::enum_descriptor;
 use crate::constructs::field::{field_descriptor, is_map};
@@ -88,10 +89,10 @@ pub fn add_field<C: CustomOptions>(
     statement: &FieldStatement,
 ) -> Result<(), AllocError>
     requires { length body.old.oneof_decl.items < 2 ^ 31 }
-    ensures value { let env = environment_in (C.customs at.now.custom.now) at.now.context in
+    ensures value { let env = seen_from C.customs at.now in
         let s = tree.message_field (tree.field_statement_syntax statement.now) in
         OnOk result (body_view body.new ≡ with_body_statement env (body_view body.old) s) }
-    ensures faults { let env = environment_in (C.customs at.now.custom.now) at.now.context in
+    ensures faults { let env = seen_from C.customs at.now in
         OnOk result (found faults.new ≡ found faults.old
         ++ field_statement_faults env (tree.field_statement_syntax statement.now)) }
 {
@@ -111,10 +112,10 @@ fn add_plain<C: CustomOptions>(
 ) -> Result<(), AllocError>
     requires { has_own_oneof (environment_in (C.customs at.now.custom.now) at.now.context)
         (tree.field_statement_syntax statement.now) ≡ false }
-    ensures value { let env = environment_in (C.customs at.now.custom.now) at.now.context in
+    ensures value { let env = seen_from C.customs at.now in
         let s = tree.message_field (tree.field_statement_syntax statement.now) in
         OnOk result (body_view body.new ≡ with_body_statement env (body_view body.old) s) }
-    ensures faults { let env = environment_in (C.customs at.now.custom.now) at.now.context in
+    ensures faults { let env = seen_from C.customs at.now in
         OnOk result (found faults.new ≡ found faults.old
         ++ field_statement_faults env (tree.field_statement_syntax statement.now)) }
 {
@@ -138,10 +139,10 @@ fn add_without_message<C: CustomOptions>(
     requires plain { statements.is_map (tree.type_syntax field.now.type_) ≡ false }
     requires own { has_own_oneof (environment_in (C.customs at.now.custom.now) at.now.context)
         (tree.field (tree.field_syntax field.now)) ≡ false }
-    ensures value { let env = environment_in (C.customs at.now.custom.now) at.now.context in
+    ensures value { let env = seen_from C.customs at.now in
         let s = tree.message_field (tree.field (tree.field_syntax field.now)) in
         OnOk result (body_view body.new ≡ with_body_statement env (body_view body.old) s) }
-    ensures faults { let env = environment_in (C.customs at.now.custom.now) at.now.context in
+    ensures faults { let env = seen_from C.customs at.now in
         OnOk result (found faults.new ≡ found faults.old
         ++ field_faults env (tree.field_syntax field.now)) }
 {
@@ -163,10 +164,10 @@ fn add_with_message<C: CustomOptions>(
 ) -> Result<(), AllocError>
     requires { has_own_oneof (environment_in (C.customs at.now.custom.now) at.now.context)
         (tree.field_statement_syntax statement.now) ≡ false }
-    ensures value { let env = environment_in (C.customs at.now.custom.now) at.now.context in
+    ensures value { let env = seen_from C.customs at.now in
         let s = tree.message_field (tree.field_statement_syntax statement.now) in
         OnOk result (body_view body.new ≡ with_body_statement env (body_view body.old) s) }
-    ensures faults { let env = environment_in (C.customs at.now.custom.now) at.now.context in
+    ensures faults { let env = seen_from C.customs at.now in
         OnOk result (found faults.new ≡ found faults.old
         ++ field_statement_faults env (tree.field_statement_syntax statement.now)) }
 {
@@ -189,10 +190,10 @@ fn add_in_own_oneof<C: CustomOptions>(
     requires few { length body.old.oneof_decl.items < 2 ^ 31 }
     requires own { has_own_oneof (environment_in (C.customs at.now.custom.now) at.now.context)
         (tree.field_statement_syntax statement.now) ≡ true }
-    ensures value { let env = environment_in (C.customs at.now.custom.now) at.now.context in
+    ensures value { let env = seen_from C.customs at.now in
         let s = tree.message_field (tree.field_statement_syntax statement.now) in
         OnOk result (body_view body.new ≡ with_body_statement env (body_view body.old) s) }
-    ensures faults { let env = environment_in (C.customs at.now.custom.now) at.now.context in
+    ensures faults { let env = seen_from C.customs at.now in
         OnOk result (found faults.new ≡ found faults.old
         ++ field_statement_faults env (tree.field_statement_syntax statement.now)) }
 {
@@ -215,10 +216,10 @@ pub fn add_oneof<C: CustomOptions>(
     oneof: &OneOf,
 ) -> Result<(), AllocError>
     requires { length body.old.oneof_decl.items < 2 ^ 31 }
-    ensures value { let env = environment_in (C.customs at.now.custom.now) at.now.context in
+    ensures value { let env = seen_from C.customs at.now in
         let s = tree.message_oneof (tree.oneof_syntax oneof.now) in
         OnOk result (body_view body.new ≡ with_body_statement env (body_view body.old) s) }
-    ensures faults { let env = environment_in (C.customs at.now.custom.now) at.now.context in
+    ensures faults { let env = seen_from C.customs at.now in
         OnOk result (found faults.new ≡ found faults.old
         ++ oneof_faults env (tree.oneof_syntax oneof.now)) }
 {
@@ -239,10 +240,10 @@ pub fn add_extend<C: CustomOptions>(
     body: &mut Body,
     extend: &Extend,
 ) -> Result<(), AllocError>
-    ensures value { let env = environment_in (C.customs at.now.custom.now) at.now.context in
+    ensures value { let env = seen_from C.customs at.now in
         let s = tree.message_extend (tree.extend_syntax extend.now) in
         OnOk result (body_view body.new ≡ with_body_statement env (body_view body.old) s) }
-    ensures faults { let env = environment_in (C.customs at.now.custom.now) at.now.context in
+    ensures faults { let env = seen_from C.customs at.now in
         OnOk result (found faults.new ≡ found faults.old
         ++ extend_faults env (tree.extend_syntax extend.now)) }
 {
@@ -257,10 +258,10 @@ pub fn add_enum<C: CustomOptions>(
     body: &mut Body,
     enumeration: &Enumeration,
 ) -> Result<(), AllocError>
-    ensures value { let env = environment_in (C.customs at.now.custom.now) at.now.context in
+    ensures value { let env = seen_from C.customs at.now in
         let s = tree.message_enum (tree.enum_syntax enumeration.now) in
         OnOk result (body_view body.new ≡ with_body_statement env (body_view body.old) s) }
-    ensures faults { let env = environment_in (C.customs at.now.custom.now) at.now.context in
+    ensures faults { let env = seen_from C.customs at.now in
         OnOk result (found faults.new ≡ found faults.old
         ++ enum_faults env (tree.enum_syntax enumeration.now)) }
 {

@@ -5,7 +5,6 @@ ghost use Rattle.protobuf_parse_syntax.specs.Counts.{statement_count};
 ghost use Rattle.protobuf_parse_syntax.specs.Trees.{StatementSyntax, extend_syntax, file_extend};
 ghost use Rattle.protobuf_parse_syntax.specs.Trees.{statement_syntax};
 ghost use Rattle.protobuf_parse_model.specs.Environment.{Environment};
-ghost use Rattle.protobuf_parse_model.specs.SeenFiles.{environment_in};
 ghost use Rattle.protobuf_parse_model.specs.Descriptors as described;
 ghost use Rattle.protobuf_parse_model.specs.Faults.{found};
 ghost use Rattle.protobuf_parse_elaboration.specs.FileDescriptor.{file_duplicates, file_faults_of};
@@ -13,6 +12,7 @@ ghost use Rattle.protobuf_parse_elaboration.specs.FileParts.{AreFilePlaces, part
 ghost use Rattle.protobuf_parse_elaboration.specs.FileParts.{parts_view, file_with, heading_view};
 ghost use Rattle.protobuf_parse_elaboration.specs.FileParts.{no_parts, with_file_statement};
 ghost use Rattle.protobuf_parse_elaboration.specs.Messages.{extend_faults};
+ghost use Rattle.protobuf_parse_elaboration.specs.Viewpoints.{seen_from};
 
 use crate::constructs::declared::{DeclaredAs, places_of};
 use crate::constructs::enumeration::enum_descriptor;
@@ -126,9 +126,9 @@ pub fn contents_of<C: CustomOptions>(
     statements: &[FileStatement],
 ) -> Result<Contents, AllocError>
     requires few { sum_by statement_count (map statement_syntax statements.now) ≤ 2147483647 }
-    ensures value { let env = environment_in (C.customs at.now.custom.now) at.now.context in
+    ensures value { let env = seen_from C.customs at.now in
         IfOk result (λ c. parts_view c ≡ parts_of_file env (map statement_syntax statements.now)) }
-    ensures faults { let env = environment_in (C.customs at.now.custom.now) at.now.context in
+    ensures faults { let env = seen_from C.customs at.now in
         let ss = map statement_syntax statements.now in
         OnOk result (found faults.new ≡ found faults.old
         ++ (flat_map (file_faults_of env) ss ++ file_duplicates ss)) }
@@ -165,9 +165,9 @@ fn declared<C: CustomOptions>(
     statements: &[FileStatement],
 ) -> Result<Contents, AllocError>
     requires few { sum_by statement_count (map statement_syntax statements.now) ≤ 2147483647 }
-    ensures value { let env = environment_in (C.customs at.now.custom.now) at.now.context in
+    ensures value { let env = seen_from C.customs at.now in
         IfOk result (λ c. parts_view c ≡ parts_of_file env (map statement_syntax statements.now)) }
-    ensures faults { let env = environment_in (C.customs at.now.custom.now) at.now.context in
+    ensures faults { let env = seen_from C.customs at.now in
         OnOk result (found faults.new ≡ found faults.old
         ++ flat_map (file_faults_of env) (map statement_syntax statements.now)) }
 {
@@ -186,10 +186,10 @@ pub fn contents_of_owned<C: CustomOptions>(
     statements: Vec<FileStatement>,
 ) -> Result<Contents, AllocError>
     requires few { sum_by statement_count (map statement_syntax statements.items) ≤ 2147483647 }
-    ensures value { let env = environment_in (C.customs at.now.custom.now) at.now.context in
+    ensures value { let env = seen_from C.customs at.now in
         IfOk result
         (λ c. parts_view c ≡ parts_of_file env (map statement_syntax statements.items)) }
-    ensures faults { let env = environment_in (C.customs at.now.custom.now) at.now.context in
+    ensures faults { let env = seen_from C.customs at.now in
         let ss = map statement_syntax statements.items in
         OnOk result (found faults.new ≡ found faults.old
         ++ (flat_map (file_faults_of env) ss ++ file_duplicates ss)) }
@@ -207,10 +207,10 @@ fn declared_by_owned<C: CustomOptions>(
     statements: Vec<FileStatement>,
 ) -> Result<Contents, AllocError>
     requires few { sum_by statement_count (map statement_syntax statements.items) ≤ 2147483647 }
-    ensures value { let env = environment_in (C.customs at.now.custom.now) at.now.context in
+    ensures value { let env = seen_from C.customs at.now in
         IfOk result
         (λ c. parts_view c ≡ parts_of_file env (map statement_syntax statements.items)) }
-    ensures faults { let env = environment_in (C.customs at.now.custom.now) at.now.context in
+    ensures faults { let env = seen_from C.customs at.now in
         OnOk result (found faults.new ≡ found faults.old
         ++ flat_map (file_faults_of env) (map statement_syntax statements.items)) }
 {
@@ -229,11 +229,11 @@ fn add_statement<C: CustomOptions>(
     statement: &FileStatement,
 ) -> Result<(), AllocError>
     requires few { statement_count (statement_syntax statement.now) ≤ 2147483647 }
-    ensures value { let env = environment_in (C.customs at.now.custom.now) at.now.context in
+    ensures value { let env = seen_from C.customs at.now in
         let s = statement_syntax statement.now in
         OnOk result (parts_view contents.new
         ≡ with_file_statement env (parts_view contents.old) s) }
-    ensures faults { let env = environment_in (C.customs at.now.custom.now) at.now.context in
+    ensures faults { let env = seen_from C.customs at.now in
         OnOk result (found faults.new ≡ found faults.old
         ++ file_faults_of env (statement_syntax statement.now)) }
 {
@@ -263,11 +263,11 @@ fn add_extensions<C: CustomOptions>(
     contents: &mut Contents,
     extend: &Extend,
 ) -> Result<(), AllocError>
-    ensures value { let env = environment_in (C.customs at.now.custom.now) at.now.context in
+    ensures value { let env = seen_from C.customs at.now in
         let s = file_extend (extend_syntax extend.now) in
         OnOk result (parts_view contents.new
         ≡ with_file_statement env (parts_view contents.old) s) }
-    ensures faults { let env = environment_in (C.customs at.now.custom.now) at.now.context in
+    ensures faults { let env = seen_from C.customs at.now in
         OnOk result (found faults.new ≡ found faults.old
         ++ extend_faults env (extend_syntax extend.now)) }
 {

@@ -3,7 +3,6 @@
 ghost use Rattle.std.specs.Prelude.{◌≡◌, ◌++◌, map, flat_map, option_map, string_bytes, IfOk, OnOk};
 ghost use Rattle.protobuf_parse_syntax.specs.Trees as tree;
 ghost use Rattle.protobuf_parse_model.specs.BuiltinOptions.{enum_table};
-ghost use Rattle.protobuf_parse_model.specs.SeenFiles.{environment_in};
 ghost use Rattle.protobuf_parse_model.specs.Descriptors as described;
 ghost use Rattle.protobuf_parse_model.specs.Duplicates.{duplicates};
 ghost use Rattle.protobuf_parse_model.specs.Faults.{found};
@@ -14,6 +13,7 @@ ghost use Rattle.protobuf_parse_model.specs.OptionMessages as sets;
 ghost use Rattle.protobuf_parse_elaboration.specs.ConstructOptions.{construct_faults};
 ghost use Rattle.protobuf_parse_elaboration.specs.Parts.{reserves_seen, values_seen};
 ghost use Rattle.protobuf_parse_elaboration.specs.Enums as enums;
+ghost use Rattle.protobuf_parse_elaboration.specs.Viewpoints.{seen_from};
 
 use crate::constructs::declared::DeclaredAs;
 use crate::constructs::options::{
@@ -37,10 +37,10 @@ pub fn enum_descriptor<C: CustomOptions>(
     faults: &mut Vec<ElabError>,
     enumeration: &Enumeration,
 ) -> Result<EnumDescriptorProto, AllocError>
-    ensures value { let env = environment_in (C.customs at.now.custom.now) at.now.context in
+    ensures value { let env = seen_from C.customs at.now in
         IfOk result (λ d. described.enum_view d
         ≡ enums.enum_of env (tree.enum_syntax enumeration.now)) }
-    ensures faults { let env = environment_in (C.customs at.now.custom.now) at.now.context in
+    ensures faults { let env = seen_from C.customs at.now in
         OnOk result (found faults.new ≡ found faults.old
         ++ enums.enum_faults env (tree.enum_syntax enumeration.now)) }
 {
@@ -63,10 +63,10 @@ fn enum_values<C: CustomOptions>(
     faults: &mut Vec<ElabError>,
     body: &[EnumStatement],
 ) -> Result<Vec<EnumValueDescriptorProto>, AllocError>
-    ensures value { let env = environment_in (C.customs at.now.custom.now) at.now.context in
+    ensures value { let env = seen_from C.customs at.now in
         let vs = flat_map enums.enum_values (map tree.enum_statement_syntax body.now) in
         IfOk result (λ v. map described.enum_value_view v.items ≡ map (enums.value_of env) vs) }
-    ensures faults { let env = environment_in (C.customs at.now.custom.now) at.now.context in
+    ensures faults { let env = seen_from C.customs at.now in
         let vs = flat_map enums.enum_values (map tree.enum_statement_syntax body.now) in
         OnOk result (found faults.new ≡ found faults.old ++ enums.values_faults env vs) }
 {
@@ -80,10 +80,10 @@ fn unlike_values<C: CustomOptions>(
     faults: &mut Vec<ElabError>,
     values: &[&EnumValue],
 ) -> Result<Vec<EnumValueDescriptorProto>, AllocError>
-    ensures value { let env = environment_in (C.customs at.now.custom.now) at.now.context in
+    ensures value { let env = seen_from C.customs at.now in
         IfOk result (λ v. map described.enum_value_view v.items
         ≡ map (enums.value_of env) (values_seen values.now)) }
-    ensures faults { let env = environment_in (C.customs at.now.custom.now) at.now.context in
+    ensures faults { let env = seen_from C.customs at.now in
         OnOk result (found faults.new ≡ found faults.old
         ++ enums.values_faults env (values_seen values.now)) }
 {
@@ -99,7 +99,7 @@ fn tell_value_names<C: CustomOptions>(
     values: &[&EnumValue],
     descriptors: &[EnumValueDescriptorProto],
 ) -> Result<(), AllocError>
-    requires { let env = environment_in (C.customs at.now.custom.now) at.now.context in
+    requires { let env = seen_from C.customs at.now in
         map described.enum_value_view descriptors.now
         ≡ map (enums.value_of env) (values_seen values.now) }
     ensures { OnOk result (found faults.new ≡ found faults.old
@@ -137,10 +137,10 @@ fn value_descriptors<C: CustomOptions>(
     faults: &mut Vec<ElabError>,
     values: &[&EnumValue],
 ) -> Result<Vec<EnumValueDescriptorProto>, AllocError>
-    ensures value { let env = environment_in (C.customs at.now.custom.now) at.now.context in
+    ensures value { let env = seen_from C.customs at.now in
         IfOk result (λ v. map described.enum_value_view v.items
         ≡ map (enums.value_of env) (values_seen values.now)) }
-    ensures faults { let env = environment_in (C.customs at.now.custom.now) at.now.context in
+    ensures faults { let env = seen_from C.customs at.now in
         OnOk result (found faults.new ≡ found faults.old
         ++ flat_map (enums.value_faults env) (values_seen values.now)) }
 {
@@ -156,10 +156,10 @@ fn value_descriptor<C: CustomOptions>(
     faults: &mut Vec<ElabError>,
     value: &EnumValue,
 ) -> Result<EnumValueDescriptorProto, AllocError>
-    ensures value { let env = environment_in (C.customs at.now.custom.now) at.now.context in
+    ensures value { let env = seen_from C.customs at.now in
         IfOk result (λ d. described.enum_value_view d
         ≡ enums.value_of env (tree.value_syntax value.now)) }
-    ensures faults { let env = environment_in (C.customs at.now.custom.now) at.now.context in
+    ensures faults { let env = seen_from C.customs at.now in
         OnOk result (found faults.new ≡ found faults.old
         ++ enums.value_faults env (tree.value_syntax value.now)) }
 {
@@ -179,11 +179,11 @@ fn told_options<C: CustomOptions>(
     faults: &mut Vec<ElabError>,
     body: &[EnumStatement],
 ) -> Result<Option<EnumOptions>, AllocError>
-    ensures value { let env = environment_in (C.customs at.now.custom.now) at.now.context in
+    ensures value { let env = seen_from C.customs at.now in
         let os = flat_map enums.options_in_enum (map tree.enum_statement_syntax body.now) in
         IfOk result (λ o. option_map enum_options_view o
         ≡ sets.enum_options (customs_bytes env of.Enum os) os) }
-    ensures faults { let env = environment_in (C.customs at.now.custom.now) at.now.context in
+    ensures faults { let env = seen_from C.customs at.now in
         let os = flat_map enums.options_in_enum (map tree.enum_statement_syntax body.now) in
         OnOk result (found faults.new ≡ found faults.old
         ++ construct_faults env of.Enum enum_table os) }

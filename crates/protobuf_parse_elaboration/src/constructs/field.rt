@@ -3,7 +3,6 @@
 ghost use Rattle.std.specs.Prelude.{◌≡◌, ◌++◌, map, IfOk, OnOk};
 ghost use Rattle.protobuf_parse_syntax.specs.Trees.{field_syntax, group_syntax, option_syntax};
 ghost use Rattle.protobuf_parse_syntax.specs.Trees.{type_syntax};
-ghost use Rattle.protobuf_parse_model.specs.SeenFiles.{environment_in};
 ghost use Rattle.protobuf_parse_model.specs.BuiltinOptions.{options_seen};
 ghost use Rattle.protobuf_parse_model.specs.Descriptors as described;
 ghost use Rattle.protobuf_parse_model.specs.Faults.{found, placed};
@@ -11,6 +10,7 @@ ghost use Rattle.protobuf_parse_model.specs.Statements as statements;
 ghost use Rattle.protobuf_parse_elaboration.specs.Parts.{field_owner_view, resolved_view, said_by};
 ghost use Rattle.protobuf_parse_elaboration.specs.Parts.{said_view};
 ghost use Rattle.protobuf_parse_elaboration.specs.Fields as fields;
+ghost use Rattle.protobuf_parse_elaboration.specs.Viewpoints.{seen_from};
 
 use crate::constructs::options::{
     custom_field_bytes, default_value, field_options, json_name_of, options_of,
@@ -34,10 +34,10 @@ pub fn field_descriptor<C: CustomOptions>(
     owner: &FieldOwner<'_>,
     field: &Field,
 ) -> Result<FieldDescriptorProto, AllocError>
-    ensures value { let env = environment_in (C.customs at.now.custom.now) at.now.context in
+    ensures value { let env = seen_from C.customs at.now in
         IfOk result (λ d. described.field_view d
         ≡ fields.field_of env (field_owner_view owner.now) (field_syntax field.now)) }
-    ensures faults { let env = environment_in (C.customs at.now.custom.now) at.now.context in
+    ensures faults { let env = seen_from C.customs at.now in
         OnOk result (found faults.new ≡ found faults.old
         ++ fields.field_faults env (field_syntax field.now)) }
 {
@@ -53,10 +53,10 @@ fn field_with<C: CustomOptions>(
     field: &Field,
     resolved: ResolvedType,
 ) -> Result<FieldDescriptorProto, AllocError>
-    ensures value { let env = environment_in (C.customs at.now.custom.now) at.now.context in
+    ensures value { let env = seen_from C.customs at.now in
         IfOk result (λ d. described.field_view d ≡ fields.field_with env
         (field_owner_view owner.now) (field_syntax field.now) (resolved_view resolved)) }
-    ensures faults { let env = environment_in (C.customs at.now.custom.now) at.now.context in
+    ensures faults { let env = seen_from C.customs at.now in
         let f = field_syntax field.now in OnOk result (found faults.new ≡ found faults.old
         ++ fields.faults_of_options env resolved.kind f.name f.options) }
 {
@@ -94,9 +94,9 @@ fn field_said<C: CustomOptions>(
     name: &str,
     options: &[ProtobufOption],
 ) -> Result<FieldSaid, AllocError>
-    ensures value { let env = environment_in (C.customs at.now.custom.now) at.now.context in
+    ensures value { let env = seen_from C.customs at.now in
         IfOk result (λ s. said_view s ≡ said_by env kind name.now (map option_syntax options.now)) }
-    ensures faults { let env = environment_in (C.customs at.now.custom.now) at.now.context in
+    ensures faults { let env = seen_from C.customs at.now in
         OnOk result (found faults.new ≡ found faults.old
         ++ fields.faults_of_options env kind name.now (map option_syntax options.now)) }
 {
@@ -121,9 +121,9 @@ fn said_by_options<C: CustomOptions>(
     name: &str,
     options: &[&ProtobufOption],
 ) -> Result<FieldSaid, AllocError>
-    ensures value { let env = environment_in (C.customs at.now.custom.now) at.now.context in
+    ensures value { let env = seen_from C.customs at.now in
         IfOk result (λ s. said_view s ≡ said_by env kind name.now (options_seen options.now)) }
-    ensures faults { let env = environment_in (C.customs at.now.custom.now) at.now.context in
+    ensures faults { let env = seen_from C.customs at.now in
         OnOk result (found faults.new ≡ found faults.old
         ++ fields.faults_of_options env kind name.now (options_seen options.now)) }
 {
@@ -144,7 +144,7 @@ pub fn group_field<C: CustomOptions>(
     owner: &FieldOwner<'_>,
     group: &Group,
 ) -> Result<FieldDescriptorProto, AllocError>
-    ensures { let env = environment_in (C.customs at.now.custom.now) at.now.context in
+    ensures { let env = seen_from C.customs at.now in
         IfOk result (λ d. let g = group_syntax group.now in described.field_view d
         ≡ fields.group_field env (field_owner_view owner.now) g.label g.name g.number) }
 {

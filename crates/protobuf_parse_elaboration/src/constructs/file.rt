@@ -3,10 +3,11 @@
 ghost use Rattle.std.specs.Prelude.{◌≡◌, ◌≤◌, ◌++◌, IfOk, OnOk};
 ghost use Rattle.protobuf_parse_syntax.specs.Counts.{statements_in};
 ghost use Rattle.protobuf_parse_syntax.specs.Trees.{file_syntax};
-ghost use Rattle.protobuf_parse_model.specs.SeenFiles.{environment_in, environment_of_file};
+ghost use Rattle.protobuf_parse_model.specs.SeenFiles.{environment_of_file};
 ghost use Rattle.protobuf_parse_model.specs.Descriptors as described;
 ghost use Rattle.protobuf_parse_model.specs.Faults.{found};
 ghost use Rattle.protobuf_parse_elaboration.specs.FileDescriptor.{file_faults, file_of};
+ghost use Rattle.protobuf_parse_elaboration.specs.Viewpoints.{seen_from};
 
 use crate::constructs::contents::{contents_of, contents_of_owned};
 use crate::constructs::heading::{heading_of, package_of};
@@ -58,9 +59,9 @@ fn descriptor_in<C: CustomOptions>(
     tree: &FileTree,
 ) -> Result<FileDescriptorProto, AllocError>
     requires few { statements_in (file_syntax tree.now) ≤ 2147483647 }
-    ensures value { let env = environment_in (C.customs at.now.custom.now) at.now.context in
+    ensures value { let env = seen_from C.customs at.now in
         IfOk result (λ d. described.file_view d ≡ file_of env name.now (file_syntax tree.now)) }
-    ensures faults { let env = environment_in (C.customs at.now.custom.now) at.now.context in
+    ensures faults { let env = seen_from C.customs at.now in
         OnOk result (found faults.new ≡ found faults.old
         ++ file_faults env (file_syntax tree.now)) }
 {
@@ -108,9 +109,9 @@ fn owned_in<C: CustomOptions>(
     tree: FileTree,
 ) -> Result<FileDescriptorProto, AllocError>
     requires few { statements_in (file_syntax tree) ≤ 2147483647 }
-    ensures value { let env = environment_in (C.customs at.now.custom.now) at.now.context in
+    ensures value { let env = seen_from C.customs at.now in
         IfOk result (λ d. described.file_view d ≡ file_of env name.now (file_syntax tree)) }
-    ensures faults { let env = environment_in (C.customs at.now.custom.now) at.now.context in
+    ensures faults { let env = seen_from C.customs at.now in
         OnOk result (found faults.new ≡ found faults.old ++ file_faults env (file_syntax tree)) }
 {
     let heading = heading_of(at, faults, name, &tree)?;

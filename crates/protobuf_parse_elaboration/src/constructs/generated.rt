@@ -4,7 +4,6 @@ ghost use Rattle.std.specs.Prelude.{◌≡◌, ◌++◌, map, flat_map, option_m
 ghost use Rattle.protobuf_parse_base.specs.DeclaredNames.{name_bytes};
 ghost use Rattle.protobuf_parse_syntax.specs.Trees.{field_statement_syntax, group_syntax};
 ghost use Rattle.protobuf_parse_syntax.specs.Trees.{type_syntax};
-ghost use Rattle.protobuf_parse_model.specs.SeenFiles.{environment_in};
 ghost use Rattle.protobuf_parse_model.specs.Descriptors as described;
 ghost use Rattle.protobuf_parse_model.specs.Duplicates.{duplicates, fault};
 ghost use Rattle.protobuf_parse_model.specs.Faults.{found, placed};
@@ -14,6 +13,7 @@ ghost use Rattle.protobuf_parse_model.specs.declared.error.ElabErrorKind.TheVari
 ghost use Rattle.protobuf_parse_elaboration.specs.Parts.{behind_seen, resolved_view};
 ghost use Rattle.protobuf_parse_elaboration.specs.Fields as fields;
 ghost use Rattle.protobuf_parse_elaboration.specs.Messages as messages;
+ghost use Rattle.protobuf_parse_elaboration.specs.Viewpoints.{seen_from};
 
 use crate::constructs::declared::DeclaredAs;
 use crate::constructs::field::{field_descriptor, group_field, tell_map};
@@ -36,7 +36,7 @@ pub fn map_entry<C: CustomOptions>(
     name: &str,
     type_: &Type,
 ) -> Result<Option<Box<DescriptorProto>>, AllocError>
-    ensures { let env = environment_in (C.customs at.now.custom.now) at.now.context in
+    ensures { let env = seen_from C.customs at.now in
         IfOk result (λ m. map described.message_view (behind_seen m)
         ≡ messages.entries_of env name.now (type_syntax type_.now)) }
 {
@@ -65,7 +65,7 @@ fn entry<C: CustomOptions>(
     key: &Type,
     value: &Type,
 ) -> Result<DescriptorProto, AllocError>
-    ensures { let env = environment_in (C.customs at.now.custom.now) at.now.context in
+    ensures { let env = seen_from C.customs at.now in
         IfOk result (λ m. described.message_view m
         ≡ messages.entry_of env name.now (type_syntax key.now) (type_syntax value.now)) }
 {
@@ -155,10 +155,10 @@ pub fn group_message<C: CustomOptions>(
     faults: &mut Vec<ElabError>,
     group: &Group,
 ) -> Result<DescriptorProto, AllocError>
-    ensures value { let env = environment_in (C.customs at.now.custom.now) at.now.context in
+    ensures value { let env = seen_from C.customs at.now in
         let g = group_syntax group.now in IfOk result
         (λ m. described.message_view m ≡ messages.group_message env g.name g.fields) }
-    ensures faults { let env = environment_in (C.customs at.now.custom.now) at.now.context in
+    ensures faults { let env = seen_from C.customs at.now in
         OnOk result (found faults.new ≡ found faults.old
         ++ fields.group_faults env (group_syntax group.now).fields) }
 {
@@ -174,7 +174,7 @@ fn tell_group_names<C: CustomOptions>(
     statements: &[FieldStatement],
     items: &[FieldDescriptorProto],
 ) -> Result<(), AllocError>
-    requires { let env = environment_in (C.customs at.now.custom.now) at.now.context in
+    requires { let env = seen_from C.customs at.now in
         map described.field_view items.now
         ≡ fields.fields_of_group env (map field_statement_syntax statements.now) }
     ensures { OnOk result (found faults.new ≡ found faults.old
@@ -197,10 +197,10 @@ fn grouped_fields<C: CustomOptions>(
     faults: &mut Vec<ElabError>,
     statements: &[FieldStatement],
 ) -> Result<Vec<FieldDescriptorProto>, AllocError>
-    ensures value { let env = environment_in (C.customs at.now.custom.now) at.now.context in
+    ensures value { let env = seen_from C.customs at.now in
         IfOk result (λ v. map described.field_view v.items
         ≡ fields.fields_of_group env (map field_statement_syntax statements.now)) }
-    ensures faults { let env = environment_in (C.customs at.now.custom.now) at.now.context in
+    ensures faults { let env = seen_from C.customs at.now in
         OnOk result (found faults.new ≡ found faults.old
         ++ flat_map (fields.grouped_faults env) (map field_statement_syntax statements.now)) }
 {
@@ -217,10 +217,10 @@ fn grouped_field<C: CustomOptions>(
     faults: &mut Vec<ElabError>,
     statement: &FieldStatement,
 ) -> Result<FieldDescriptorProto, AllocError>
-    ensures value { let env = environment_in (C.customs at.now.custom.now) at.now.context in
+    ensures value { let env = seen_from C.customs at.now in
         IfOk result (λ d. described.field_view d
         ≡ fields.field_statement_of env fields.of_message (field_statement_syntax statement.now)) }
-    ensures faults { let env = environment_in (C.customs at.now.custom.now) at.now.context in
+    ensures faults { let env = seen_from C.customs at.now in
         OnOk result (found faults.new ≡ found faults.old
         ++ fields.grouped_faults env (field_statement_syntax statement.now)) }
 {

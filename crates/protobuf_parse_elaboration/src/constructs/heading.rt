@@ -8,13 +8,13 @@ ghost use Rattle.protobuf_parse_model.specs.Environment.{customs_bytes};
 ghost use Rattle.protobuf_parse_model.specs.Faults.{found};
 ghost use Rattle.protobuf_parse_model.specs.OptionMessages as sets;
 ghost use Rattle.protobuf_parse_model.specs.Options.{file_options_view};
-ghost use Rattle.protobuf_parse_model.specs.SeenFiles.{environment_in};
 ghost use Rattle.protobuf_parse_model.specs.declared.customs.Construct.TheVariants as of;
 ghost use Rattle.protobuf_parse_elaboration.specs.ConstructOptions.{construct_faults};
 ghost use Rattle.protobuf_parse_elaboration.specs.FileDescriptor.{options_of_statements};
 ghost use Rattle.protobuf_parse_elaboration.specs.FileDescriptor.{syntax_text};
 ghost use Rattle.protobuf_parse_elaboration.specs.FileParts.{heading_faults, heading_of};
 ghost use Rattle.protobuf_parse_elaboration.specs.FileParts.{heading_view};
+ghost use Rattle.protobuf_parse_elaboration.specs.Viewpoints.{seen_from};
 
 use crate::constructs::options::{custom_bytes, file_options, options_in};
 use crate::constructs::viewpoint::Viewpoint;
@@ -41,9 +41,9 @@ pub fn heading_of<C: CustomOptions>(
     tree: &FileTree,
 ) -> Result<Heading, AllocError>
     requires few { length tree.now.statements.items ≤ 2147483647 }
-    ensures value { let env = environment_in (C.customs at.now.custom.now) at.now.context in
+    ensures value { let env = seen_from C.customs at.now in
         IfOk result (λ h. heading_view h ≡ heading_of env name.now (file_syntax tree.now)) }
-    ensures faults { let env = environment_in (C.customs at.now.custom.now) at.now.context in
+    ensures faults { let env = seen_from C.customs at.now in
         OnOk result (found faults.new ≡ found faults.old
         ++ heading_faults env (file_syntax tree.now)) }
 {
@@ -87,11 +87,11 @@ fn told_options<C: CustomOptions>(
     faults: &mut Vec<ElabError>,
     statements: &[FileStatement],
 ) -> Result<Option<FileOptions>, AllocError>
-    ensures value { let env = environment_in (C.customs at.now.custom.now) at.now.context in
+    ensures value { let env = seen_from C.customs at.now in
         let os = options_of_statements (map statement_syntax statements.now) in
         IfOk result (λ o. option_map file_options_view o
         ≡ sets.file_options (customs_bytes env of.File os) os) }
-    ensures faults { let env = environment_in (C.customs at.now.custom.now) at.now.context in
+    ensures faults { let env = seen_from C.customs at.now in
         let os = options_of_statements (map statement_syntax statements.now) in
         OnOk result (found faults.new ≡ found faults.old
         ++ construct_faults env of.File file_table os) }

@@ -3,7 +3,6 @@
 ghost use Rattle.std.specs.Prelude.{◌≡◌, ◌++◌, map, flat_map, IfOk, OnOk};
 ghost use Rattle.protobuf_parse_syntax.specs.Trees.{field_statement_syntax, oneof_statement_syntax};
 ghost use Rattle.protobuf_parse_syntax.specs.Trees.{oneof_syntax};
-ghost use Rattle.protobuf_parse_model.specs.SeenFiles.{environment_in};
 ghost use Rattle.protobuf_parse_model.specs.Faults.{found, placed};
 ghost use Rattle.protobuf_parse_model.specs.Statements.{oneof_fields};
 ghost use Rattle.protobuf_parse_elaboration.specs.Parts.{extensions_declared, fields_declared};
@@ -11,6 +10,7 @@ ghost use Rattle.protobuf_parse_elaboration.specs.Parts.{field_owner_view, field
 ghost use Rattle.protobuf_parse_elaboration.specs.Parts.{statements_seen};
 ghost use Rattle.protobuf_parse_elaboration.specs.Fields.{extension_faults, field_statement_faults};
 ghost use Rattle.protobuf_parse_elaboration.specs.Messages.{extendee_faults, extending};
+ghost use Rattle.protobuf_parse_elaboration.specs.Viewpoints.{seen_from};
 
 use crate::constructs::owner::FieldOwner;
 use crate::constructs::statement::{declared_extension, declared_field};
@@ -44,10 +44,10 @@ pub fn fields_of_oneof<C: CustomOptions>(
     owner: &FieldOwner<'_>,
     oneof: &OneOf,
 ) -> Result<DeclaredFields, AllocError>
-    ensures value { let env = environment_in (C.customs at.now.custom.now) at.now.context in
+    ensures value { let env = seen_from C.customs at.now in
         IfOk result (λ d. fields_view d ≡ fields_declared env (field_owner_view owner.now)
         (flat_map oneof_fields (oneof_syntax oneof.now).body)) }
-    ensures faults { let env = environment_in (C.customs at.now.custom.now) at.now.context in
+    ensures faults { let env = seen_from C.customs at.now in
         OnOk result (found faults.new ≡ found faults.old ++ flat_map (field_statement_faults env)
         (flat_map oneof_fields (oneof_syntax oneof.now).body)) }
 {
@@ -77,10 +77,10 @@ fn declared_fields<C: CustomOptions>(
     owner: &FieldOwner<'_>,
     statements: &[&FieldStatement],
 ) -> Result<DeclaredFields, AllocError>
-    ensures value { let env = environment_in (C.customs at.now.custom.now) at.now.context in
+    ensures value { let env = seen_from C.customs at.now in
         IfOk result (λ d. fields_view d
         ≡ fields_declared env (field_owner_view owner.now) (statements_seen statements.now)) }
-    ensures faults { let env = environment_in (C.customs at.now.custom.now) at.now.context in
+    ensures faults { let env = seen_from C.customs at.now in
         OnOk result (found faults.new ≡ found faults.old
         ++ flat_map (field_statement_faults env) (statements_seen statements.now)) }
 {
@@ -102,10 +102,10 @@ pub fn fields_of_extend<C: CustomOptions>(
     extendee: &str,
     statements: &[FieldStatement],
 ) -> Result<DeclaredFields, AllocError>
-    ensures value { let env = environment_in (C.customs at.now.custom.now) at.now.context in
+    ensures value { let env = seen_from C.customs at.now in
         let ss = map field_statement_syntax statements.now in IfOk result
         (λ d. fields_view d ≡ extensions_declared env (extending env extendee.now) ss) }
-    ensures faults { let env = environment_in (C.customs at.now.custom.now) at.now.context in
+    ensures faults { let env = seen_from C.customs at.now in
         let ss = map field_statement_syntax statements.now in
         OnOk result (found faults.new ≡ found faults.old
         ++ (placed place (extendee_faults env extendee.now ss)
@@ -132,10 +132,10 @@ fn declared_extensions<C: CustomOptions>(
     owner: &FieldOwner<'_>,
     statements: &[FieldStatement],
 ) -> Result<DeclaredFields, AllocError>
-    ensures value { let env = environment_in (C.customs at.now.custom.now) at.now.context in
+    ensures value { let env = seen_from C.customs at.now in
         let ss = map field_statement_syntax statements.now in IfOk result
         (λ d. fields_view d ≡ extensions_declared env (field_owner_view owner.now) ss) }
-    ensures faults { let env = environment_in (C.customs at.now.custom.now) at.now.context in
+    ensures faults { let env = seen_from C.customs at.now in
         OnOk result (found faults.new ≡ found faults.old
         ++ flat_map (extension_faults env) (map field_statement_syntax statements.now)) }
 {

@@ -5,7 +5,7 @@ ghost use Rattle.std.specs.Prelude.{sum_by, IfOk, OnOk};
 ghost use Rattle.protobuf_parse_syntax.specs.Counts.{in_message, message_statement_count};
 ghost use Rattle.protobuf_parse_syntax.specs.Trees.{message_statement_syntax, message_syntax};
 ghost use Rattle.protobuf_parse_syntax.specs.Trees.{nested_message};
-ghost use Rattle.protobuf_parse_model.specs.SeenFiles.{environment_in, name_texts};
+ghost use Rattle.protobuf_parse_model.specs.SeenFiles.{name_texts};
 ghost use Rattle.protobuf_parse_model.specs.Declarations as names;
 ghost use Rattle.protobuf_parse_model.specs.Descriptors as described;
 ghost use Rattle.protobuf_parse_model.specs.Environment.{env_inside};
@@ -13,6 +13,7 @@ ghost use Rattle.protobuf_parse_model.specs.Faults.{found};
 ghost use Rattle.protobuf_parse_elaboration.specs.Parts as contexts;
 ghost use Rattle.protobuf_parse_elaboration.specs.Parts.{body_view, with_body_statement};
 ghost use Rattle.protobuf_parse_elaboration.specs.Messages as messages;
+ghost use Rattle.protobuf_parse_elaboration.specs.Viewpoints.{seen_from};
 
 use crate::constructs::body::{Body, add_enum, add_extend, add_field, add_oneof};
 use crate::constructs::declared::DeclaredAs;
@@ -35,10 +36,10 @@ pub fn message_descriptor<C: CustomOptions>(
     message: &Message,
 ) -> Result<DescriptorProto, AllocError>
     requires few { in_message (message_syntax message.now) ≤ 2147483647 }
-    ensures value { let env = environment_in (C.customs at.now.custom.now) at.now.context in
+    ensures value { let env = seen_from C.customs at.now in
         IfOk result (λ d. described.message_view d ∷ []
         ≡ messages.nested_of env (nested_message (message_syntax message.now))) }
-    ensures faults { let env = environment_in (C.customs at.now.custom.now) at.now.context in
+    ensures faults { let env = seen_from C.customs at.now in
         OnOk result (found faults.new ≡ found faults.old
         ++ messages.statement_faults env (nested_message (message_syntax message.now))) }
 {
@@ -55,12 +56,12 @@ fn message_of_body<C: CustomOptions>(
 ) -> Result<DescriptorProto, AllocError>
     requires few { sum_by message_statement_count (map message_statement_syntax body.now)
         ≤ 2147483647 }
-    ensures value { let env = environment_in (C.customs at.now.custom.now) at.now.context in
+    ensures value { let env = seen_from C.customs at.now in
         let ss = map message_statement_syntax body.now in
         let nested = flat_map (messages.nested_of (env_inside env name.now)) ss in
         IfOk result
         (λ d. described.message_view d ≡ messages.message_from env name.now ss nested) }
-    ensures faults { let env = environment_in (C.customs at.now.custom.now) at.now.context in
+    ensures faults { let env = seen_from C.customs at.now in
         let ss = map message_statement_syntax body.now in
         OnOk result (found faults.new ≡ found faults.old
         ++ (flat_map (messages.statement_faults (env_inside env name.now)) ss
@@ -79,14 +80,14 @@ fn finished<C: CustomOptions>(
     body: &[MessageStatement],
     parts: Body,
 ) -> Result<DescriptorProto, AllocError>
-    requires { let env = environment_in (C.customs at.now.custom.now) at.now.context in
+    requires { let env = seen_from C.customs at.now in
         body_view parts
         ≡ contexts.body_of (env_inside env name.now) (map message_statement_syntax body.now) }
-    ensures value { let env = environment_in (C.customs at.now.custom.now) at.now.context in
+    ensures value { let env = seen_from C.customs at.now in
         let ss = map message_statement_syntax body.now in
         IfOk result (λ d. described.message_view d ≡ contexts.message_of_both name.now
         (body_view parts) (contexts.rest_of env ss)) }
-    ensures faults { let env = environment_in (C.customs at.now.custom.now) at.now.context in
+    ensures faults { let env = seen_from C.customs at.now in
         OnOk result (found faults.new ≡ found faults.old
         ++ messages.whole_faults env name.now (map message_statement_syntax body.now)) }
 {
@@ -104,10 +105,10 @@ fn tell_body_names<C: CustomOptions>(
     statements: &[MessageStatement],
     body: &Body,
 ) -> Result<(), AllocError>
-    requires { let env = environment_in (C.customs at.now.custom.now) at.now.context in
+    requires { let env = seen_from C.customs at.now in
         body_view body.now
         ≡ contexts.body_of (env_inside env name.now) (map message_statement_syntax statements.now) }
-    ensures { let env = environment_in (C.customs at.now.custom.now) at.now.context in
+    ensures { let env = seen_from C.customs at.now in
         OnOk result (found faults.new ≡ found faults.old ++ messages.body_duplicates env.syntax
         (map message_statement_syntax statements.now)) }
 {
@@ -179,10 +180,10 @@ fn body_inside<C: CustomOptions>(
 ) -> Result<Body, AllocError>
     requires few { sum_by message_statement_count (map message_statement_syntax body.now)
         ≤ 2147483647 }
-    ensures value { let env = environment_in (C.customs at.now.custom.now) at.now.context in
+    ensures value { let env = seen_from C.customs at.now in
         let ss = map message_statement_syntax body.now in
         IfOk result (λ b. body_view b ≡ contexts.body_of (env_inside env name.now) ss) }
-    ensures faults { let env = environment_in (C.customs at.now.custom.now) at.now.context in
+    ensures faults { let env = seen_from C.customs at.now in
         let ss = map message_statement_syntax body.now in
         OnOk result (found faults.new ≡ found faults.old
         ++ flat_map (messages.statement_faults (env_inside env name.now)) ss) }
@@ -209,10 +210,10 @@ fn body_of<C: CustomOptions>(
 ) -> Result<Body, AllocError>
     requires few { sum_by message_statement_count (map message_statement_syntax statements.now)
         ≤ 2147483647 }
-    ensures value { let env = environment_in (C.customs at.now.custom.now) at.now.context in
+    ensures value { let env = seen_from C.customs at.now in
         IfOk result (λ b. body_view b
         ≡ contexts.body_of env (map message_statement_syntax statements.now)) }
-    ensures faults { let env = environment_in (C.customs at.now.custom.now) at.now.context in
+    ensures faults { let env = seen_from C.customs at.now in
         OnOk result (found faults.new ≡ found faults.old ++ flat_map
         (messages.statement_faults env) (map message_statement_syntax statements.now)) }
 {
@@ -239,10 +240,10 @@ fn add_statement<C: CustomOptions>(
 ) -> Result<(), AllocError>
     requires places { length body.old.oneof_decl.items < 2 ^ 31 }
     requires few { message_statement_count (message_statement_syntax statement.now) ≤ 2147483647 }
-    ensures value { let env = environment_in (C.customs at.now.custom.now) at.now.context in
+    ensures value { let env = seen_from C.customs at.now in
         let s = message_statement_syntax statement.now in
         OnOk result (body_view body.new ≡ with_body_statement env (body_view body.old) s) }
-    ensures faults { let env = environment_in (C.customs at.now.custom.now) at.now.context in
+    ensures faults { let env = seen_from C.customs at.now in
         OnOk result (found faults.new ≡ found faults.old
         ++ messages.statement_faults env (message_statement_syntax statement.now)) }
 {
@@ -267,10 +268,10 @@ fn add_message<C: CustomOptions>(
     message: &Message,
 ) -> Result<(), AllocError>
     requires few { in_message (message_syntax message.now) ≤ 2147483647 }
-    ensures value { let env = environment_in (C.customs at.now.custom.now) at.now.context in
+    ensures value { let env = seen_from C.customs at.now in
         let s = nested_message (message_syntax message.now) in
         OnOk result (body_view body.new ≡ with_body_statement env (body_view body.old) s) }
-    ensures faults { let env = environment_in (C.customs at.now.custom.now) at.now.context in
+    ensures faults { let env = seen_from C.customs at.now in
         OnOk result (found faults.new ≡ found faults.old
         ++ messages.statement_faults env (nested_message (message_syntax message.now))) }
 {

@@ -4,7 +4,6 @@ ghost use Rattle.std.specs.Prelude.{◌≡◌, ◌++◌, map, flat_map, option_m
 ghost use Rattle.protobuf_parse_syntax.specs.Trees.{field_statement_syntax, oneof_statement_syntax};
 ghost use Rattle.protobuf_parse_syntax.specs.Trees.{oneof_syntax};
 ghost use Rattle.protobuf_parse_model.specs.BuiltinOptions.{oneof_table};
-ghost use Rattle.protobuf_parse_model.specs.SeenFiles.{environment_in};
 ghost use Rattle.protobuf_parse_model.specs.Environment.{customs_bytes};
 ghost use Rattle.protobuf_parse_model.specs.declared.customs.Construct.TheVariants as of;
 ghost use Rattle.protobuf_parse_model.specs.Descriptors as described;
@@ -15,6 +14,7 @@ ghost use Rattle.protobuf_parse_model.specs.Statements as statements;
 ghost use Rattle.protobuf_parse_elaboration.specs.ConstructOptions.{construct_faults};
 ghost use Rattle.protobuf_parse_elaboration.specs.Fields.{says_optional};
 ghost use Rattle.protobuf_parse_elaboration.specs.Messages as messages;
+ghost use Rattle.protobuf_parse_elaboration.specs.Viewpoints.{seen_from};
 
 use crate::constructs::field::says_optional;
 use crate::constructs::options::{custom_bytes, oneof_options, options_in};
@@ -33,9 +33,9 @@ pub fn oneof_descriptor<C: CustomOptions>(
     faults: &mut Vec<ElabError>,
     oneof: &OneOf,
 ) -> Result<OneofDescriptorProto, AllocError>
-    ensures value { let env = environment_in (C.customs at.now.custom.now) at.now.context in
+    ensures value { let env = seen_from C.customs at.now in
         IfOk result (λ d. described.oneof_view d ≡ messages.oneof_of env (oneof_syntax oneof.now)) }
-    ensures faults { let env = environment_in (C.customs at.now.custom.now) at.now.context in
+    ensures faults { let env = seen_from C.customs at.now in
         OnOk result (found faults.new ≡ found faults.old ++ construct_faults env of.Oneof
         oneof_table (messages.options_in_oneof (oneof_syntax oneof.now))) }
 {
@@ -51,12 +51,12 @@ fn told_options<C: CustomOptions>(
     faults: &mut Vec<ElabError>,
     body: &[OneOfStatement],
 ) -> Result<Option<OneofOptions>, AllocError>
-    ensures value { let env = environment_in (C.customs at.now.custom.now) at.now.context in
+    ensures value { let env = seen_from C.customs at.now in
         let os = flat_map statements.oneof_statement_options
         (map oneof_statement_syntax body.now) in
         IfOk result (λ o. option_map oneof_options_view o
         ≡ sets.oneof_options (customs_bytes env of.Oneof os) os) }
-    ensures faults { let env = environment_in (C.customs at.now.custom.now) at.now.context in
+    ensures faults { let env = seen_from C.customs at.now in
         let os = flat_map statements.oneof_statement_options
         (map oneof_statement_syntax body.now) in
         OnOk result (found faults.new ≡ found faults.old

@@ -3,7 +3,6 @@
 ghost use Rattle.std.specs.Prelude.{◌≡◌, ◌++◌, map, flat_map, option_map, IfOk, OnOk};
 ghost use Rattle.protobuf_parse_syntax.specs.Trees.{message_statement_syntax, range_syntax};
 ghost use Rattle.protobuf_parse_model.specs.BuiltinOptions.{message_table};
-ghost use Rattle.protobuf_parse_model.specs.SeenFiles.{environment_in};
 ghost use Rattle.protobuf_parse_model.specs.Descriptors as described;
 ghost use Rattle.protobuf_parse_model.specs.Faults.{found, placed};
 ghost use Rattle.protobuf_parse_model.specs.Environment.{customs_bytes};
@@ -15,6 +14,7 @@ ghost use Rattle.protobuf_parse_elaboration.specs.Parts.{reserved_views, reserve
 ghost use Rattle.protobuf_parse_elaboration.specs.Parts.{rest_view};
 ghost use Rattle.protobuf_parse_elaboration.specs.Enums as enums;
 ghost use Rattle.protobuf_parse_elaboration.specs.Messages as messages;
+ghost use Rattle.protobuf_parse_elaboration.specs.Viewpoints.{seen_from};
 
 use crate::constructs::options::{custom_bytes, message_options, options_in};
 use crate::constructs::reserved::{
@@ -47,9 +47,9 @@ pub fn rest_of_message<C: CustomOptions>(
     name: &str,
     body: &[MessageStatement],
 ) -> Result<Rest, AllocError>
-    ensures value { let env = environment_in (C.customs at.now.custom.now) at.now.context in
+    ensures value { let env = seen_from C.customs at.now in
         IfOk result (λ r. rest_view r ≡ rest_of env (map message_statement_syntax body.now)) }
-    ensures faults { let env = environment_in (C.customs at.now.custom.now) at.now.context in
+    ensures faults { let env = seen_from C.customs at.now in
         OnOk result (found faults.new ≡ found faults.old
         ++ messages.rest_faults env name.now (map message_statement_syntax body.now)) }
 {
@@ -201,11 +201,11 @@ fn told_options<C: CustomOptions>(
     faults: &mut Vec<ElabError>,
     body: &[MessageStatement],
 ) -> Result<Option<MessageOptions>, AllocError>
-    ensures value { let env = environment_in (C.customs at.now.custom.now) at.now.context in
+    ensures value { let env = seen_from C.customs at.now in
         let os = messages.options_of_body (map message_statement_syntax body.now) in
         IfOk result (λ o. option_map message_options_view o
         ≡ sets.message_options (customs_bytes env of.Message os) os) }
-    ensures faults { let env = environment_in (C.customs at.now.custom.now) at.now.context in
+    ensures faults { let env = seen_from C.customs at.now in
         let os = messages.options_of_body (map message_statement_syntax body.now) in
         OnOk result (found faults.new ≡ found faults.old
         ++ construct_faults env of.Message message_table os) }

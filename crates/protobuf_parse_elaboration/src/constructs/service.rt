@@ -4,7 +4,6 @@ ghost use Rattle.std.specs.Prelude.{◌≡◌, ◌++◌, [], map, flat_map, opti
 ghost use Rattle.std.specs.Prelude.{unwrap_or, IfOk, OnOk};
 ghost use Rattle.protobuf_parse_syntax.specs.Trees as tree;
 ghost use Rattle.protobuf_parse_model.specs.BuiltinOptions.{method_table, service_table};
-ghost use Rattle.protobuf_parse_model.specs.SeenFiles.{environment_in};
 ghost use Rattle.protobuf_parse_model.specs.Descriptors as described;
 ghost use Rattle.protobuf_parse_model.specs.Environment.{customs_bytes, type_full_name};
 ghost use Rattle.protobuf_parse_model.specs.Environment.{type_missing};
@@ -16,6 +15,7 @@ ghost use Rattle.protobuf_parse_model.specs.OptionMessages as sets;
 ghost use Rattle.protobuf_parse_elaboration.specs.ConstructOptions.{construct_faults};
 ghost use Rattle.protobuf_parse_elaboration.specs.Parts.{methods_seen};
 ghost use Rattle.protobuf_parse_elaboration.specs.Services as services;
+ghost use Rattle.protobuf_parse_elaboration.specs.Viewpoints.{seen_from};
 
 use crate::constructs::declared::DeclaredAs;
 use crate::constructs::options::{custom_bytes, method_options, options_in, service_options};
@@ -39,10 +39,10 @@ pub fn service_descriptor<C: CustomOptions>(
     faults: &mut Vec<ElabError>,
     service: &Service,
 ) -> Result<ServiceDescriptorProto, AllocError>
-    ensures value { let env = environment_in (C.customs at.now.custom.now) at.now.context in
+    ensures value { let env = seen_from C.customs at.now in
         IfOk result (λ d. described.service_view d
         ≡ services.service_of env (tree.service_syntax service.now)) }
-    ensures faults { let env = environment_in (C.customs at.now.custom.now) at.now.context in
+    ensures faults { let env = seen_from C.customs at.now in
         OnOk result (found faults.new ≡ found faults.old
         ++ services.service_faults env (tree.service_syntax service.now)) }
 {
@@ -63,10 +63,10 @@ fn service_methods<C: CustomOptions>(
     faults: &mut Vec<ElabError>,
     body: &[ServiceStatement],
 ) -> Result<Vec<MethodDescriptorProto>, AllocError>
-    ensures value { let env = environment_in (C.customs at.now.custom.now) at.now.context in
+    ensures value { let env = seen_from C.customs at.now in
         let ms = flat_map services.methods_in (map tree.service_statement_syntax body.now) in
         IfOk result (λ v. map described.method_view v.items ≡ map (services.method_of env) ms) }
-    ensures faults { let env = environment_in (C.customs at.now.custom.now) at.now.context in
+    ensures faults { let env = seen_from C.customs at.now in
         let ms = flat_map services.methods_in (map tree.service_statement_syntax body.now) in
         OnOk result (found faults.new ≡ found faults.old ++ services.methods_faults env ms) }
 {
@@ -116,10 +116,10 @@ fn method_descriptors<C: CustomOptions>(
     faults: &mut Vec<ElabError>,
     methods: &[&Method],
 ) -> Result<Vec<MethodDescriptorProto>, AllocError>
-    ensures value { let env = environment_in (C.customs at.now.custom.now) at.now.context in
+    ensures value { let env = seen_from C.customs at.now in
         IfOk result (λ v. map described.method_view v.items
         ≡ map (services.method_of env) (methods_seen methods.now)) }
-    ensures faults { let env = environment_in (C.customs at.now.custom.now) at.now.context in
+    ensures faults { let env = seen_from C.customs at.now in
         OnOk result (found faults.new ≡ found faults.old
         ++ flat_map (services.method_faults env) (methods_seen methods.now)) }
 {
@@ -135,10 +135,10 @@ fn method_descriptor<C: CustomOptions>(
     faults: &mut Vec<ElabError>,
     method: &Method,
 ) -> Result<MethodDescriptorProto, AllocError>
-    ensures value { let env = environment_in (C.customs at.now.custom.now) at.now.context in
+    ensures value { let env = seen_from C.customs at.now in
         IfOk result (λ d. described.method_view d
         ≡ services.method_of env (tree.method_syntax method.now)) }
-    ensures faults { let env = environment_in (C.customs at.now.custom.now) at.now.context in
+    ensures faults { let env = seen_from C.customs at.now in
         OnOk result (found faults.new ≡ found faults.old
         ++ services.method_faults env (tree.method_syntax method.now)) }
 {
@@ -163,9 +163,9 @@ fn method_type<C: CustomOptions>(
     place: Place,
     name: &str,
 ) -> Result<String, AllocError>
-    ensures value { let env = environment_in (C.customs at.now.custom.now) at.now.context in
+    ensures value { let env = seen_from C.customs at.now in
         IfOk result (λ s. string_bytes s ≡ unwrap_or (type_full_name env name.now) []) }
-    ensures faults { let env = environment_in (C.customs at.now.custom.now) at.now.context in
+    ensures faults { let env = seen_from C.customs at.now in
         OnOk result (found faults.new ≡ found faults.old
         ++ placed place (type_missing env name.now)) }
 {
@@ -182,11 +182,11 @@ fn told_method_options<C: CustomOptions>(
     faults: &mut Vec<ElabError>,
     statements: &[OptionStatement],
 ) -> Result<Option<MethodOptions>, AllocError>
-    ensures value { let env = environment_in (C.customs at.now.custom.now) at.now.context in
+    ensures value { let env = seen_from C.customs at.now in
         let os = map services.statement_option (map tree.option_statement_syntax statements.now) in
         IfOk result (λ o. option_map method_options_view o
         ≡ sets.method_options (customs_bytes env of.Method os) os) }
-    ensures faults { let env = environment_in (C.customs at.now.custom.now) at.now.context in
+    ensures faults { let env = seen_from C.customs at.now in
         let os = map services.statement_option (map tree.option_statement_syntax statements.now) in
         OnOk result (found faults.new ≡ found faults.old
         ++ construct_faults env of.Method method_table os) }
@@ -203,12 +203,12 @@ fn told_options<C: CustomOptions>(
     faults: &mut Vec<ElabError>,
     body: &[ServiceStatement],
 ) -> Result<Option<ServiceOptions>, AllocError>
-    ensures value { let env = environment_in (C.customs at.now.custom.now) at.now.context in
+    ensures value { let env = seen_from C.customs at.now in
         let os = flat_map services.options_in_service
         (map tree.service_statement_syntax body.now) in
         IfOk result (λ o. option_map service_options_view o
         ≡ sets.service_options (customs_bytes env of.Service os) os) }
-    ensures faults { let env = environment_in (C.customs at.now.custom.now) at.now.context in
+    ensures faults { let env = seen_from C.customs at.now in
         let os = flat_map services.options_in_service
         (map tree.service_statement_syntax body.now) in
         OnOk result (found faults.new ≡ found faults.old

@@ -4,12 +4,12 @@ ghost use Rattle.std.specs.Prelude.{◌≡◌, [], ◌∷◌, ◌++◌, IfOk, On
 ghost use Rattle.protobuf_parse_syntax.specs.Trees as tree;
 ghost use Rattle.protobuf_parse_syntax.specs.Trees.{field_syntax, field_statement_syntax, group_of};
 ghost use Rattle.protobuf_parse_syntax.specs.Trees.{group_syntax};
-ghost use Rattle.protobuf_parse_model.specs.SeenFiles.{environment_in};
 ghost use Rattle.protobuf_parse_model.specs.Faults.{found};
 ghost use Rattle.protobuf_parse_elaboration.specs.Parts.{behind_seen, declared_view};
 ghost use Rattle.protobuf_parse_elaboration.specs.Parts.{field_declared_by, extension_declared_by};
 ghost use Rattle.protobuf_parse_elaboration.specs.Parts.{field_owner_view};
 ghost use Rattle.protobuf_parse_elaboration.specs.Fields as fields;
+ghost use Rattle.protobuf_parse_elaboration.specs.Viewpoints.{seen_from};
 
 use crate::constructs::field::{field_descriptor, group_field, tell_map};
 use crate::constructs::generated::{boxed, group_message, map_entry};
@@ -80,10 +80,10 @@ pub fn declared_field<C: CustomOptions>(
     owner: &FieldOwner<'_>,
     statement: &FieldStatement,
 ) -> Result<DeclaredField, AllocError>
-    ensures value { let env = environment_in (C.customs at.now.custom.now) at.now.context in
+    ensures value { let env = seen_from C.customs at.now in
         IfOk result (λ d. declared_view d ≡ field_declared_by env (field_owner_view owner.now)
         (field_statement_syntax statement.now)) }
-    ensures faults { let env = environment_in (C.customs at.now.custom.now) at.now.context in
+    ensures faults { let env = seen_from C.customs at.now in
         OnOk result (found faults.new ≡ found faults.old
         ++ fields.field_statement_faults env (field_statement_syntax statement.now)) }
 {
@@ -100,10 +100,10 @@ pub fn declared_extension<C: CustomOptions>(
     owner: &FieldOwner<'_>,
     statement: &FieldStatement,
 ) -> Result<DeclaredField, AllocError>
-    ensures value { let env = environment_in (C.customs at.now.custom.now) at.now.context in
+    ensures value { let env = seen_from C.customs at.now in
         IfOk result (λ d. declared_view d ≡ extension_declared_by env (field_owner_view owner.now)
         (field_statement_syntax statement.now)) }
-    ensures faults { let env = environment_in (C.customs at.now.custom.now) at.now.context in
+    ensures faults { let env = seen_from C.customs at.now in
         OnOk result (found faults.new ≡ found faults.old
         ++ fields.extension_faults env (field_statement_syntax statement.now)) }
 {
@@ -121,10 +121,10 @@ fn declared_plain<C: CustomOptions>(
     owner: &FieldOwner<'_>,
     field: &Field,
 ) -> Result<DeclaredField, AllocError>
-    ensures value { let env = environment_in (C.customs at.now.custom.now) at.now.context in
+    ensures value { let env = seen_from C.customs at.now in
         IfOk result (λ d. declared_view d ≡ field_declared_by env (field_owner_view owner.now)
         (tree.field (field_syntax field.now))) }
-    ensures faults { let env = environment_in (C.customs at.now.custom.now) at.now.context in
+    ensures faults { let env = seen_from C.customs at.now in
         OnOk result (found faults.new ≡ found faults.old
         ++ fields.field_faults env (field_syntax field.now)) }
 {
@@ -140,10 +140,10 @@ fn declared_without_entry<C: CustomOptions>(
     owner: &FieldOwner<'_>,
     field: &Field,
 ) -> Result<DeclaredField, AllocError>
-    ensures value { let env = environment_in (C.customs at.now.custom.now) at.now.context in
+    ensures value { let env = seen_from C.customs at.now in
         IfOk result (λ d. declared_view d ≡ extension_declared_by env (field_owner_view owner.now)
         (tree.field (field_syntax field.now))) }
-    ensures faults { let env = environment_in (C.customs at.now.custom.now) at.now.context in
+    ensures faults { let env = seen_from C.customs at.now in
         OnOk result (found faults.new ≡ found faults.old
         ++ fields.extension_faults env (tree.field (field_syntax field.now))) }
 {
@@ -163,10 +163,10 @@ fn declared_group<C: CustomOptions>(
     owner: &FieldOwner<'_>,
     group: &Group,
 ) -> Result<DeclaredField, AllocError>
-    ensures value { let env = environment_in (C.customs at.now.custom.now) at.now.context in
+    ensures value { let env = seen_from C.customs at.now in
         IfOk result (λ d. declared_view d ≡ field_declared_by env (field_owner_view owner.now)
         (group_of (group_syntax group.now))) }
-    ensures faults { let env = environment_in (C.customs at.now.custom.now) at.now.context in
+    ensures faults { let env = seen_from C.customs at.now in
         OnOk result (found faults.new ≡ found faults.old
         ++ fields.field_statement_faults env (group_of (group_syntax group.now))) }
 {

@@ -3,7 +3,7 @@
 ghost use Rattle.std.specs.Prelude.{◌≡◌, ◌++◌, Some, None, option_map, string_bytes, IfOk, OnOk};
 ghost use Rattle.protobuf_parse_syntax.specs.Trees.{type_syntax};
 ghost use Rattle.protobuf_parse_model.specs.Declarations.{full_name};
-ghost use Rattle.protobuf_parse_model.specs.SeenFiles.{environment_in, meaning_view};
+ghost use Rattle.protobuf_parse_model.specs.SeenFiles.{meaning_view};
 ghost use Rattle.protobuf_parse_model.specs.Statements.{entry_name};
 ghost use Rattle.protobuf_parse_model.specs.Environment.{missing_name, type_full_name};
 ghost use Rattle.protobuf_parse_model.specs.Environment.{type_missing, type_named};
@@ -11,6 +11,7 @@ ghost use Rattle.protobuf_parse_model.specs.Faults.{found, placed};
 ghost use Rattle.protobuf_parse_elaboration.specs.Parts.{resolved_view};
 ghost use Rattle.protobuf_parse_elaboration.specs.Fields.{inner_type_faults, type_faults, type_of};
 ghost use Rattle.protobuf_parse_elaboration.specs.Fields.{type_of_meaning};
+ghost use Rattle.protobuf_parse_elaboration.specs.Viewpoints.{seen_from};
 
 use crate::constructs::viewpoint::Viewpoint;
 use protobuf_parse_lexer::Place;
@@ -41,9 +42,9 @@ pub fn resolved_type<C: CustomOptions>(
     name: &str,
     type_: &Type,
 ) -> Result<ResolvedType, AllocError>
-    ensures value { let env = environment_in (C.customs at.now.custom.now) at.now.context in
+    ensures value { let env = seen_from C.customs at.now in
         IfOk result (λ r. resolved_view r ≡ type_of env name.now (type_syntax type_.now)) }
-    ensures faults { let env = environment_in (C.customs at.now.custom.now) at.now.context in
+    ensures faults { let env = seen_from C.customs at.now in
         OnOk result (found faults.new ≡ found faults.old
         ++ placed place (type_faults env name.now (type_syntax type_.now))) }
 {
@@ -71,9 +72,9 @@ fn named_type<C: CustomOptions>(
     place: Place,
     name: &str,
 ) -> Result<ResolvedType, AllocError>
-    ensures value { let env = environment_in (C.customs at.now.custom.now) at.now.context in
+    ensures value { let env = seen_from C.customs at.now in
         IfOk result (λ r. resolved_view r ≡ type_of_meaning (type_named env name.now)) }
-    ensures faults { let env = environment_in (C.customs at.now.custom.now) at.now.context in
+    ensures faults { let env = seen_from C.customs at.now in
         OnOk result (found faults.new ≡ found faults.old
         ++ placed place (type_missing env name.now)) }
 {
@@ -122,7 +123,7 @@ fn tell_inner<C: CustomOptions>(
     name: &str,
     type_: &Type,
 ) -> Result<(), AllocError>
-    ensures { let env = environment_in (C.customs at.now.custom.now) at.now.context in
+    ensures { let env = seen_from C.customs at.now in
         OnOk result (found faults.new ≡ found faults.old
         ++ placed place (inner_type_faults env name.now (type_syntax type_.now))) }
 {
@@ -147,7 +148,7 @@ fn map_type<C: CustomOptions>(
     at: &Viewpoint<'_, '_, C>,
     name: &str,
 ) -> Result<ResolvedType, AllocError>
-    ensures { let env = environment_in (C.customs at.now.custom.now) at.now.context in
+    ensures { let env = seen_from C.customs at.now in
         IfOk result (λ r. resolved_view r ≡ record {
           kind = FieldType.Message;
           name = Some (full_name env.scope (entry_name name.now));
@@ -167,7 +168,7 @@ pub fn inner_type<C: CustomOptions>(
     name: &str,
     type_: &Type,
 ) -> Result<ResolvedType, AllocError>
-    ensures { let env = environment_in (C.customs at.now.custom.now) at.now.context in
+    ensures { let env = seen_from C.customs at.now in
         IfOk result (λ r. resolved_view r ≡ type_of env name.now (type_syntax type_.now)) }
 {
     match type_ {
@@ -188,9 +189,9 @@ pub fn type_full_name<C: CustomOptions>(
     place: Place,
     name: &str,
 ) -> Result<Option<String>, AllocError>
-    ensures value { let env = environment_in (C.customs at.now.custom.now) at.now.context in
+    ensures value { let env = seen_from C.customs at.now in
         IfOk result (λ s. option_map string_bytes s ≡ type_full_name env name.now) }
-    ensures faults { let env = environment_in (C.customs at.now.custom.now) at.now.context in
+    ensures faults { let env = seen_from C.customs at.now in
         OnOk result (found faults.new ≡ found faults.old
         ++ placed place (type_missing env name.now)) }
 {

@@ -6,7 +6,6 @@ ghost use Rattle.std.specs.List.{find};
 ghost use Rattle.protobuf_parse_syntax.specs.Trees.{constant_syntax, option_syntax};
 ghost use Rattle.protobuf_parse_model.specs.BuiltinOptions as spec;
 ghost use Rattle.protobuf_parse_model.specs.declared.customs.Construct.TheVariants as of;
-ghost use Rattle.protobuf_parse_model.specs.SeenFiles.{environment_in};
 ghost use Rattle.protobuf_parse_model.specs.Duplicates.{stands_in};
 ghost use Rattle.protobuf_parse_model.specs.Environment.{customs_bytes, customs_faults};
 ghost use Rattle.protobuf_parse_model.specs.Faults.{found, placed};
@@ -16,6 +15,7 @@ ghost use Rattle.protobuf_parse_elaboration.specs.ConstructOptions.{construct_fa
 ghost use Rattle.protobuf_parse_elaboration.specs.Fields.{field_option_faults};
 ghost use Rattle.protobuf_parse_elaboration.specs.Fields.{field_options_faults};
 ghost use Rattle.protobuf_parse_elaboration.specs.OptionViews.{entry_seen, kind_seen, table_seen};
+ghost use Rattle.protobuf_parse_elaboration.specs.Viewpoints.{seen_from};
 
 use crate::constructs::options::builtin::table_of;
 use crate::constructs::options::strings::decoded_text;
@@ -35,9 +35,9 @@ pub fn custom_bytes<C: CustomOptions>(
     construct: Construct,
     options: &[&ProtobufOption],
 ) -> Result<Vec<u8>, AllocError>
-    ensures value { let env = environment_in (C.customs at.now.custom.now) at.now.context in
+    ensures value { let env = seen_from C.customs at.now in
         IfOk result (λ v. v.items ≡ customs_bytes env construct (options_seen options.now)) }
-    ensures faults { let env = environment_in (C.customs at.now.custom.now) at.now.context in
+    ensures faults { let env = seen_from C.customs at.now in
         OnOk result (found faults.new ≡ found faults.old
         ++ construct_faults env construct (table_of construct) (options_seen options.now)) }
 {
@@ -52,9 +52,9 @@ pub fn custom_field_bytes<C: CustomOptions>(
     faults: &mut Vec<ElabError>,
     options: &[&ProtobufOption],
 ) -> Result<Vec<u8>, AllocError>
-    ensures value { let env = environment_in (C.customs at.now.custom.now) at.now.context in
+    ensures value { let env = seen_from C.customs at.now in
         IfOk result (λ v. v.items ≡ customs_bytes env of.Field (options_seen options.now)) }
-    ensures faults { let env = environment_in (C.customs at.now.custom.now) at.now.context in
+    ensures faults { let env = seen_from C.customs at.now in
         let os = options_seen options.now in OnOk result (found faults.new ≡ found faults.old
         ++ (field_options_faults os ++ customs_faults env of.Field os)) }
 {
