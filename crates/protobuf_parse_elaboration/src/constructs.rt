@@ -23,7 +23,7 @@ pub mod types;
 mod unlike;
 mod viewpoint;
 
-ghost use Rattle.std.specs.Prelude.{List, ◌≡◌, ◌≤◌, ◌++◌, IfOk, OnOk};
+ghost use Rattle.std.specs.Prelude.{List, ◌≡◌, ◌≤◌, ◌++◌, IfOk};
 ghost use Rattle.protobuf_parse_syntax.specs.Counts.{statements_in};
 ghost use Rattle.protobuf_parse_syntax.specs.Trees.{FileSyntax, file_syntax};
 ghost use Rattle.protobuf_parse_model.specs.Descriptors as described;
@@ -31,6 +31,7 @@ ghost use Rattle.protobuf_parse_model.specs.Faults.{Elaborates, found};
 ghost use Rattle.protobuf_parse_model.specs.Tables.{TableTells, picked};
 ghost use Rattle.protobuf_parse_elaboration.specs.FileDescriptor.{environment, file_faults};
 ghost use Rattle.protobuf_parse_elaboration.specs.FileDescriptor.{file_of};
+ghost use Rattle.protobuf_parse_elaboration.specs.Telling.{Tells};
 
 use crate::constructs::file::{descriptor_of_owned, file_descriptor};
 pub use options::{decoded_bytes, decoded_text, has_builtin_option};
@@ -121,7 +122,7 @@ pub fn elaborate_all<C: CustomOptions>(
     ensures faults { (files : List FileSyntax) → TableTells seen.now.declarations.now files →
         let t = file_syntax tree.now in
         let env = environment (picked files seen.now.sight.now) (C.customs custom.now) t in
-        OnOk result (found faults.new ≡ found faults.old ++ file_faults env t) }
+        Tells result faults.old faults.new (file_faults env t) }
 {
     file_descriptor(alloc, faults, name, tree, seen, custom)
 }
@@ -143,7 +144,7 @@ pub fn elaborate_all_owned<C: CustomOptions>(
     ensures faults { (files : List FileSyntax) → TableTells seen.now.declarations.now files →
         let t = file_syntax tree in
         let env = environment (picked files seen.now.sight.now) (C.customs custom.now) t in
-        OnOk result (found faults.new ≡ found faults.old ++ file_faults env t) }
+        Tells result faults.old faults.new (file_faults env t) }
 {
     descriptor_of_owned(alloc, faults, name, tree, seen, custom)
 }

@@ -5,7 +5,6 @@ ghost use Rattle.protobuf_parse_base.specs.DeclaredNames.{name_bytes};
 ghost use Rattle.protobuf_parse_syntax.specs.Trees as tree;
 ghost use Rattle.protobuf_parse_model.specs.SeenFiles.{environment_in};
 ghost use Rattle.protobuf_parse_model.specs.Descriptors as described;
-ghost use Rattle.protobuf_parse_model.specs.Faults.{found};
 ghost use Rattle.protobuf_parse_model.specs.Statements as statements;
 ghost use Rattle.protobuf_parse_elaboration.specs.Parts.{body_view, message_of_both, rest_view};
 ghost use Rattle.protobuf_parse_elaboration.specs.Parts.{with_body_statement};
@@ -14,6 +13,7 @@ ghost use Rattle.protobuf_parse_elaboration.specs.Fields.{field_faults, field_st
 ghost use Rattle.protobuf_parse_elaboration.specs.Messages.{extend_faults, has_own_oneof};
 ghost use Rattle.protobuf_parse_elaboration.specs.Messages.{oneof_faults};
 ghost use Rattle.protobuf_parse_elaboration.specs.Viewpoints.{seen_from};
+ghost use Rattle.protobuf_parse_elaboration.specs.Telling.{Tells};
 
 use crate::constructs::enumeration::enum_descriptor;
 use crate::constructs::field::{field_descriptor, is_map};
@@ -93,8 +93,8 @@ pub fn add_field<C: CustomOptions>(
         let s = tree.message_field (tree.field_statement_syntax statement.now) in
         OnOk result (body_view body.new ≡ with_body_statement env (body_view body.old) s) }
     ensures faults { let env = seen_from C.customs at.now in
-        OnOk result (found faults.new ≡ found faults.old
-        ++ field_statement_faults env (tree.field_statement_syntax statement.now)) }
+        Tells result faults.old faults.new
+        (field_statement_faults env (tree.field_statement_syntax statement.now)) }
 {
     if has_own_oneof(at.context.syntax, statement) {
         add_in_own_oneof(at, faults, body, statement)
@@ -116,8 +116,8 @@ fn add_plain<C: CustomOptions>(
         let s = tree.message_field (tree.field_statement_syntax statement.now) in
         OnOk result (body_view body.new ≡ with_body_statement env (body_view body.old) s) }
     ensures faults { let env = seen_from C.customs at.now in
-        OnOk result (found faults.new ≡ found faults.old
-        ++ field_statement_faults env (tree.field_statement_syntax statement.now)) }
+        Tells result faults.old faults.new
+        (field_statement_faults env (tree.field_statement_syntax statement.now)) }
 {
     match statement {
         FieldStatement::Field(field) if !is_map(&field.type_) => {
@@ -143,8 +143,7 @@ fn add_without_message<C: CustomOptions>(
         let s = tree.message_field (tree.field (tree.field_syntax field.now)) in
         OnOk result (body_view body.new ≡ with_body_statement env (body_view body.old) s) }
     ensures faults { let env = seen_from C.customs at.now in
-        OnOk result (found faults.new ≡ found faults.old
-        ++ field_faults env (tree.field_syntax field.now)) }
+        Tells result faults.old faults.new (field_faults env (tree.field_syntax field.now)) }
 {
     let owner = FieldOwner {
         extendee: None,
@@ -168,8 +167,8 @@ fn add_with_message<C: CustomOptions>(
         let s = tree.message_field (tree.field_statement_syntax statement.now) in
         OnOk result (body_view body.new ≡ with_body_statement env (body_view body.old) s) }
     ensures faults { let env = seen_from C.customs at.now in
-        OnOk result (found faults.new ≡ found faults.old
-        ++ field_statement_faults env (tree.field_statement_syntax statement.now)) }
+        Tells result faults.old faults.new
+        (field_statement_faults env (tree.field_statement_syntax statement.now)) }
 {
     let owner = FieldOwner {
         extendee: None,
@@ -194,8 +193,8 @@ fn add_in_own_oneof<C: CustomOptions>(
         let s = tree.message_field (tree.field_statement_syntax statement.now) in
         OnOk result (body_view body.new ≡ with_body_statement env (body_view body.old) s) }
     ensures faults { let env = seen_from C.customs at.now in
-        OnOk result (found faults.new ≡ found faults.old
-        ++ field_statement_faults env (tree.field_statement_syntax statement.now)) }
+        Tells result faults.old faults.new
+        (field_statement_faults env (tree.field_statement_syntax statement.now)) }
 {
     let owner = FieldOwner {
         extendee: None,
@@ -220,8 +219,7 @@ pub fn add_oneof<C: CustomOptions>(
         let s = tree.message_oneof (tree.oneof_syntax oneof.now) in
         OnOk result (body_view body.new ≡ with_body_statement env (body_view body.old) s) }
     ensures faults { let env = seen_from C.customs at.now in
-        OnOk result (found faults.new ≡ found faults.old
-        ++ oneof_faults env (tree.oneof_syntax oneof.now)) }
+        Tells result faults.old faults.new (oneof_faults env (tree.oneof_syntax oneof.now)) }
 {
     let owner = FieldOwner {
         extendee: None,
@@ -244,8 +242,7 @@ pub fn add_extend<C: CustomOptions>(
         let s = tree.message_extend (tree.extend_syntax extend.now) in
         OnOk result (body_view body.new ≡ with_body_statement env (body_view body.old) s) }
     ensures faults { let env = seen_from C.customs at.now in
-        OnOk result (found faults.new ≡ found faults.old
-        ++ extend_faults env (tree.extend_syntax extend.now)) }
+        Tells result faults.old faults.new (extend_faults env (tree.extend_syntax extend.now)) }
 {
     let declared = fields_of_extend(at, faults, extend.place, &extend.extendee, &extend.fields)?;
     append_declared(&mut body.extension, &mut body.nested_type, declared)
@@ -262,8 +259,7 @@ pub fn add_enum<C: CustomOptions>(
         let s = tree.message_enum (tree.enum_syntax enumeration.now) in
         OnOk result (body_view body.new ≡ with_body_statement env (body_view body.old) s) }
     ensures faults { let env = seen_from C.customs at.now in
-        OnOk result (found faults.new ≡ found faults.old
-        ++ enum_faults env (tree.enum_syntax enumeration.now)) }
+        Tells result faults.old faults.new (enum_faults env (tree.enum_syntax enumeration.now)) }
 {
     let descriptor = enum_descriptor(at, faults, enumeration)?;
     body.enum_type.push(descriptor)?;

@@ -6,13 +6,13 @@ ghost use Rattle.protobuf_parse_syntax.specs.Trees.{StatementSyntax, extend_synt
 ghost use Rattle.protobuf_parse_syntax.specs.Trees.{statement_syntax};
 ghost use Rattle.protobuf_parse_model.specs.Environment.{Environment};
 ghost use Rattle.protobuf_parse_model.specs.Descriptors as described;
-ghost use Rattle.protobuf_parse_model.specs.Faults.{found};
 ghost use Rattle.protobuf_parse_elaboration.specs.FileDescriptor.{file_duplicates, file_faults_of};
 ghost use Rattle.protobuf_parse_elaboration.specs.FileParts.{AreFilePlaces, parts_of_file};
 ghost use Rattle.protobuf_parse_elaboration.specs.FileParts.{parts_view, file_with, heading_view};
 ghost use Rattle.protobuf_parse_elaboration.specs.FileParts.{no_parts, with_file_statement};
 ghost use Rattle.protobuf_parse_elaboration.specs.Messages.{extend_faults};
 ghost use Rattle.protobuf_parse_elaboration.specs.Viewpoints.{seen_from};
+ghost use Rattle.protobuf_parse_elaboration.specs.Telling.{Tells};
 
 use crate::constructs::declared::{DeclaredAs, places_of};
 use crate::constructs::enumeration::enum_descriptor;
@@ -130,8 +130,8 @@ pub fn contents_of<C: CustomOptions>(
         IfOk result (λ c. parts_view c ≡ parts_of_file env (map statement_syntax statements.now)) }
     ensures faults { let env = seen_from C.customs at.now in
         let ss = map statement_syntax statements.now in
-        OnOk result (found faults.new ≡ found faults.old
-        ++ (flat_map (file_faults_of env) ss ++ file_duplicates ss)) }
+        Tells result faults.old faults.new
+        (flat_map (file_faults_of env) ss ++ file_duplicates ss) }
 {
     let places = file_places(at.alloc, at.context.syntax, statements)?;
     let contents = declared(at, faults, statements)?;
@@ -150,7 +150,7 @@ fn tell_file_names(
         × (parts_view contents.now ≡ parts_of_file env ss) × AreFilePlaces places.now ss }
     ensures { (ss : List StatementSyntax) (env : Environment)
         → parts_view contents.now ≡ parts_of_file env ss → AreFilePlaces places.now ss
-        → OnOk result (found faults.new ≡ found faults.old ++ file_duplicates ss) }
+        → Tells result faults.old faults.new (file_duplicates ss) }
 {
     tell_repeated(alloc, faults, &contents.message_type, &places.messages)?;
     tell_repeated(alloc, faults, &contents.enum_type, &places.enums)?;
@@ -168,8 +168,8 @@ fn declared<C: CustomOptions>(
     ensures value { let env = seen_from C.customs at.now in
         IfOk result (λ c. parts_view c ≡ parts_of_file env (map statement_syntax statements.now)) }
     ensures faults { let env = seen_from C.customs at.now in
-        OnOk result (found faults.new ≡ found faults.old
-        ++ flat_map (file_faults_of env) (map statement_syntax statements.now)) }
+        Tells result faults.old faults.new
+        (flat_map (file_faults_of env) (map statement_syntax statements.now)) }
 {
     let mut contents = Contents::new(at.alloc);
     for statement in statements {
@@ -191,8 +191,8 @@ pub fn contents_of_owned<C: CustomOptions>(
         (λ c. parts_view c ≡ parts_of_file env (map statement_syntax statements.items)) }
     ensures faults { let env = seen_from C.customs at.now in
         let ss = map statement_syntax statements.items in
-        OnOk result (found faults.new ≡ found faults.old
-        ++ (flat_map (file_faults_of env) ss ++ file_duplicates ss)) }
+        Tells result faults.old faults.new
+        (flat_map (file_faults_of env) ss ++ file_duplicates ss) }
 {
     let places = file_places(at.alloc, at.context.syntax, &statements)?;
     let contents = declared_by_owned(at, faults, statements)?;
@@ -211,8 +211,8 @@ fn declared_by_owned<C: CustomOptions>(
         IfOk result
         (λ c. parts_view c ≡ parts_of_file env (map statement_syntax statements.items)) }
     ensures faults { let env = seen_from C.customs at.now in
-        OnOk result (found faults.new ≡ found faults.old
-        ++ flat_map (file_faults_of env) (map statement_syntax statements.items)) }
+        Tells result faults.old faults.new
+        (flat_map (file_faults_of env) (map statement_syntax statements.items)) }
 {
     let mut contents = Contents::new(at.alloc);
     for statement in statements {
@@ -234,8 +234,7 @@ fn add_statement<C: CustomOptions>(
         OnOk result (parts_view contents.new
         ≡ with_file_statement env (parts_view contents.old) s) }
     ensures faults { let env = seen_from C.customs at.now in
-        OnOk result (found faults.new ≡ found faults.old
-        ++ file_faults_of env (statement_syntax statement.now)) }
+        Tells result faults.old faults.new (file_faults_of env (statement_syntax statement.now)) }
 {
     match statement {
         FileStatement::Message(message) => {
@@ -268,8 +267,7 @@ fn add_extensions<C: CustomOptions>(
         OnOk result (parts_view contents.new
         ≡ with_file_statement env (parts_view contents.old) s) }
     ensures faults { let env = seen_from C.customs at.now in
-        OnOk result (found faults.new ≡ found faults.old
-        ++ extend_faults env (extend_syntax extend.now)) }
+        Tells result faults.old faults.new (extend_faults env (extend_syntax extend.now)) }
 {
     let declared = fields_of_extend(at, faults, extend.place, &extend.extendee, &extend.fields)?;
     append_declared(

@@ -1,11 +1,10 @@
 //! Enums.
 
-ghost use Rattle.std.specs.Prelude.{◌≡◌, ◌++◌, map, flat_map, option_map, string_bytes, IfOk, OnOk};
+ghost use Rattle.std.specs.Prelude.{◌≡◌, ◌++◌, map, flat_map, option_map, string_bytes, IfOk};
 ghost use Rattle.protobuf_parse_syntax.specs.Trees as tree;
 ghost use Rattle.protobuf_parse_model.specs.BuiltinOptions.{enum_table};
 ghost use Rattle.protobuf_parse_model.specs.Descriptors as described;
 ghost use Rattle.protobuf_parse_model.specs.Duplicates.{duplicates};
-ghost use Rattle.protobuf_parse_model.specs.Faults.{found};
 ghost use Rattle.protobuf_parse_model.specs.Environment.{customs_bytes};
 ghost use Rattle.protobuf_parse_model.specs.declared.customs.Construct.TheVariants as of;
 ghost use Rattle.protobuf_parse_model.specs.Options.{enum_options_view};
@@ -14,6 +13,7 @@ ghost use Rattle.protobuf_parse_elaboration.specs.ConstructOptions.{construct_fa
 ghost use Rattle.protobuf_parse_elaboration.specs.Parts.{reserves_seen, values_seen};
 ghost use Rattle.protobuf_parse_elaboration.specs.Enums as enums;
 ghost use Rattle.protobuf_parse_elaboration.specs.Viewpoints.{seen_from};
+ghost use Rattle.protobuf_parse_elaboration.specs.Telling.{Tells};
 
 use crate::constructs::declared::DeclaredAs;
 use crate::constructs::options::{
@@ -41,8 +41,8 @@ pub fn enum_descriptor<C: CustomOptions>(
         IfOk result (λ d. described.enum_view d
         ≡ enums.enum_of env (tree.enum_syntax enumeration.now)) }
     ensures faults { let env = seen_from C.customs at.now in
-        OnOk result (found faults.new ≡ found faults.old
-        ++ enums.enum_faults env (tree.enum_syntax enumeration.now)) }
+        Tells result faults.old faults.new
+        (enums.enum_faults env (tree.enum_syntax enumeration.now)) }
 {
     let value = enum_values(at, faults, &enumeration.body)?;
     let reserved = reserved(at.alloc, &enumeration.body)?;
@@ -68,7 +68,7 @@ fn enum_values<C: CustomOptions>(
         IfOk result (λ v. map described.enum_value_view v.items ≡ map (enums.value_of env) vs) }
     ensures faults { let env = seen_from C.customs at.now in
         let vs = flat_map enums.enum_values (map tree.enum_statement_syntax body.now) in
-        OnOk result (found faults.new ≡ found faults.old ++ enums.values_faults env vs) }
+        Tells result faults.old faults.new (enums.values_faults env vs) }
 {
     let values = values(at.alloc, body)?;
     unlike_values(at, faults, &values)
@@ -84,8 +84,7 @@ fn unlike_values<C: CustomOptions>(
         IfOk result (λ v. map described.enum_value_view v.items
         ≡ map (enums.value_of env) (values_seen values.now)) }
     ensures faults { let env = seen_from C.customs at.now in
-        OnOk result (found faults.new ≡ found faults.old
-        ++ enums.values_faults env (values_seen values.now)) }
+        Tells result faults.old faults.new (enums.values_faults env (values_seen values.now)) }
 {
     let descriptors = value_descriptors(at, faults, values)?;
     tell_value_names(at, faults, values, &descriptors)?;
@@ -102,8 +101,8 @@ fn tell_value_names<C: CustomOptions>(
     requires { let env = seen_from C.customs at.now in
         map described.enum_value_view descriptors.now
         ≡ map (enums.value_of env) (values_seen values.now) }
-    ensures { OnOk result (found faults.new ≡ found faults.old
-        ++ duplicates (map enums.value_named (values_seen values.now))) }
+    ensures { Tells result faults.old faults.new
+        (duplicates (map enums.value_named (values_seen values.now))) }
 {
     let syntax = at.context.syntax;
     tell_names(
@@ -141,8 +140,8 @@ fn value_descriptors<C: CustomOptions>(
         IfOk result (λ v. map described.enum_value_view v.items
         ≡ map (enums.value_of env) (values_seen values.now)) }
     ensures faults { let env = seen_from C.customs at.now in
-        OnOk result (found faults.new ≡ found faults.old
-        ++ flat_map (enums.value_faults env) (values_seen values.now)) }
+        Tells result faults.old faults.new
+        (flat_map (enums.value_faults env) (values_seen values.now)) }
 {
     let mut descriptors = Vec::with_capacity(at.alloc, values.len())?;
     for value in values {
@@ -160,8 +159,7 @@ fn value_descriptor<C: CustomOptions>(
         IfOk result (λ d. described.enum_value_view d
         ≡ enums.value_of env (tree.value_syntax value.now)) }
     ensures faults { let env = seen_from C.customs at.now in
-        OnOk result (found faults.new ≡ found faults.old
-        ++ enums.value_faults env (tree.value_syntax value.now)) }
+        Tells result faults.old faults.new (enums.value_faults env (tree.value_syntax value.now)) }
 {
     let options = options_of(at.alloc, &value.options)?;
     let bytes = custom_bytes(at, faults, Construct::EnumValue, &options)?;
@@ -185,8 +183,7 @@ fn told_options<C: CustomOptions>(
         ≡ sets.enum_options (customs_bytes env of.Enum os) os) }
     ensures faults { let env = seen_from C.customs at.now in
         let os = flat_map enums.options_in_enum (map tree.enum_statement_syntax body.now) in
-        OnOk result (found faults.new ≡ found faults.old
-        ++ construct_faults env of.Enum enum_table os) }
+        Tells result faults.old faults.new (construct_faults env of.Enum enum_table os) }
 {
     let options = options_in(at.alloc, body)?;
     let bytes = custom_bytes(at, faults, Construct::Enum, &options)?;

@@ -1,16 +1,17 @@
 //! Fields and groups.
 
-ghost use Rattle.std.specs.Prelude.{◌≡◌, ◌++◌, map, IfOk, OnOk};
+ghost use Rattle.std.specs.Prelude.{◌≡◌, ◌++◌, map, IfOk};
 ghost use Rattle.protobuf_parse_syntax.specs.Trees.{field_syntax, group_syntax, option_syntax};
 ghost use Rattle.protobuf_parse_syntax.specs.Trees.{type_syntax};
 ghost use Rattle.protobuf_parse_model.specs.BuiltinOptions.{options_seen};
 ghost use Rattle.protobuf_parse_model.specs.Descriptors as described;
-ghost use Rattle.protobuf_parse_model.specs.Faults.{found, placed};
+ghost use Rattle.protobuf_parse_model.specs.Faults.{placed};
 ghost use Rattle.protobuf_parse_model.specs.Statements as statements;
 ghost use Rattle.protobuf_parse_elaboration.specs.Parts.{field_owner_view, resolved_view, said_by};
 ghost use Rattle.protobuf_parse_elaboration.specs.Parts.{said_view};
 ghost use Rattle.protobuf_parse_elaboration.specs.Fields as fields;
 ghost use Rattle.protobuf_parse_elaboration.specs.Viewpoints.{seen_from};
+ghost use Rattle.protobuf_parse_elaboration.specs.Telling.{Tells};
 
 use crate::constructs::options::{
     custom_field_bytes, default_value, field_options, json_name_of, options_of,
@@ -38,8 +39,7 @@ pub fn field_descriptor<C: CustomOptions>(
         IfOk result (λ d. described.field_view d
         ≡ fields.field_of env (field_owner_view owner.now) (field_syntax field.now)) }
     ensures faults { let env = seen_from C.customs at.now in
-        OnOk result (found faults.new ≡ found faults.old
-        ++ fields.field_faults env (field_syntax field.now)) }
+        Tells result faults.old faults.new (fields.field_faults env (field_syntax field.now)) }
 {
     let resolved = resolved_type(at, faults, field.place, &field.name, &field.type_)?;
     field_with(at, faults, owner, field, resolved)
@@ -57,8 +57,8 @@ fn field_with<C: CustomOptions>(
         IfOk result (λ d. described.field_view d ≡ fields.field_with env
         (field_owner_view owner.now) (field_syntax field.now) (resolved_view resolved)) }
     ensures faults { let env = seen_from C.customs at.now in
-        let f = field_syntax field.now in OnOk result (found faults.new ≡ found faults.old
-        ++ fields.faults_of_options env resolved.kind f.name f.options) }
+        let f = field_syntax field.now in Tells result faults.old faults.new
+        (fields.faults_of_options env resolved.kind f.name f.options) }
 {
     let name = field.name.clone()?;
     let extendee = owner.extendee(at.alloc)?;
@@ -97,8 +97,8 @@ fn field_said<C: CustomOptions>(
     ensures value { let env = seen_from C.customs at.now in
         IfOk result (λ s. said_view s ≡ said_by env kind name.now (map option_syntax options.now)) }
     ensures faults { let env = seen_from C.customs at.now in
-        OnOk result (found faults.new ≡ found faults.old
-        ++ fields.faults_of_options env kind name.now (map option_syntax options.now)) }
+        Tells result faults.old faults.new
+        (fields.faults_of_options env kind name.now (map option_syntax options.now)) }
 {
     if options.is_empty() {
         at.custom
@@ -124,8 +124,8 @@ fn said_by_options<C: CustomOptions>(
     ensures value { let env = seen_from C.customs at.now in
         IfOk result (λ s. said_view s ≡ said_by env kind name.now (options_seen options.now)) }
     ensures faults { let env = seen_from C.customs at.now in
-        OnOk result (found faults.new ≡ found faults.old
-        ++ fields.faults_of_options env kind name.now (options_seen options.now)) }
+        Tells result faults.old faults.new
+        (fields.faults_of_options env kind name.now (options_seen options.now)) }
 {
     let default_value = default_value(at.alloc, faults, kind, name, options)?;
     let json_name = json_name_of(at.alloc, faults, name, options)?;
@@ -180,8 +180,8 @@ pub fn is_map(type_: &Type) -> bool
 
 /// E4 for a map.
 pub fn tell_map(alloc: Global, faults: &mut Vec<ElabError>, field: &Field) -> Result<(), AllocError>
-    ensures { let f = field_syntax field.now in OnOk result
-        (found faults.new ≡ found faults.old ++ placed f.place (fields.map_faults f)) }
+    ensures { let f = field_syntax field.now in Tells result faults.old faults.new
+        (placed f.place (fields.map_faults f)) }
 {
     if is_map(&field.type_) {
         let kind = ElabErrorKind::DanglingTypeName;

@@ -1,13 +1,13 @@
 //! Files.
 
-ghost use Rattle.std.specs.Prelude.{◌≡◌, ◌≤◌, ◌++◌, IfOk, OnOk};
+ghost use Rattle.std.specs.Prelude.{◌≡◌, ◌≤◌, ◌++◌, IfOk};
 ghost use Rattle.protobuf_parse_syntax.specs.Counts.{statements_in};
 ghost use Rattle.protobuf_parse_syntax.specs.Trees.{file_syntax};
 ghost use Rattle.protobuf_parse_model.specs.SeenFiles.{environment_of_file};
 ghost use Rattle.protobuf_parse_model.specs.Descriptors as described;
-ghost use Rattle.protobuf_parse_model.specs.Faults.{found};
 ghost use Rattle.protobuf_parse_elaboration.specs.FileDescriptor.{file_faults, file_of};
 ghost use Rattle.protobuf_parse_elaboration.specs.Viewpoints.{seen_from};
+ghost use Rattle.protobuf_parse_elaboration.specs.Telling.{Tells};
 
 use crate::constructs::contents::{contents_of, contents_of_owned};
 use crate::constructs::heading::{heading_of, package_of};
@@ -36,7 +36,7 @@ pub fn file_descriptor<C: CustomOptions>(
         IfOk result (λ d. described.file_view d ≡ file_of env name.now t) }
     ensures faults { let t = file_syntax tree.now in
         let env = environment_of_file (C.customs custom.now) seen.now t in
-        OnOk result (found faults.new ≡ found faults.old ++ file_faults env t) }
+        Tells result faults.old faults.new (file_faults env t) }
 {
     let scope = file_scope(alloc, tree)?;
     let at = Viewpoint {
@@ -62,8 +62,7 @@ fn descriptor_in<C: CustomOptions>(
     ensures value { let env = seen_from C.customs at.now in
         IfOk result (λ d. described.file_view d ≡ file_of env name.now (file_syntax tree.now)) }
     ensures faults { let env = seen_from C.customs at.now in
-        OnOk result (found faults.new ≡ found faults.old
-        ++ file_faults env (file_syntax tree.now)) }
+        Tells result faults.old faults.new (file_faults env (file_syntax tree.now)) }
 {
     let heading = heading_of(at, faults, name, tree)?;
     let contents = contents_of(at, faults, &tree.statements)?;
@@ -85,7 +84,7 @@ pub fn descriptor_of_owned<C: CustomOptions>(
         IfOk result (λ d. described.file_view d ≡ file_of env name.now t) }
     ensures faults { let t = file_syntax tree in
         let env = environment_of_file (C.customs custom.now) seen.now t in
-        OnOk result (found faults.new ≡ found faults.old ++ file_faults env t) }
+        Tells result faults.old faults.new (file_faults env t) }
 {
     let package_name = package_of(alloc, &tree)?;
     let scope = scope_of_package(alloc, package_name.as_deref())?;
@@ -112,7 +111,7 @@ fn owned_in<C: CustomOptions>(
     ensures value { let env = seen_from C.customs at.now in
         IfOk result (λ d. described.file_view d ≡ file_of env name.now (file_syntax tree)) }
     ensures faults { let env = seen_from C.customs at.now in
-        OnOk result (found faults.new ≡ found faults.old ++ file_faults env (file_syntax tree)) }
+        Tells result faults.old faults.new (file_faults env (file_syntax tree)) }
 {
     let heading = heading_of(at, faults, name, &tree)?;
     let contents = contents_of_owned(at, faults, tree.into_statements())?;

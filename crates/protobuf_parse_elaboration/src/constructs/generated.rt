@@ -1,12 +1,12 @@
 //! The messages that stand behind maps and groups.
 
-ghost use Rattle.std.specs.Prelude.{◌≡◌, ◌++◌, map, flat_map, option_map, IfOk, OnOk};
+ghost use Rattle.std.specs.Prelude.{◌≡◌, ◌++◌, map, flat_map, option_map, IfOk};
 ghost use Rattle.protobuf_parse_base.specs.DeclaredNames.{name_bytes};
 ghost use Rattle.protobuf_parse_syntax.specs.Trees.{field_statement_syntax, group_syntax};
 ghost use Rattle.protobuf_parse_syntax.specs.Trees.{type_syntax};
 ghost use Rattle.protobuf_parse_model.specs.Descriptors as described;
 ghost use Rattle.protobuf_parse_model.specs.Duplicates.{duplicates, fault};
-ghost use Rattle.protobuf_parse_model.specs.Faults.{found, placed};
+ghost use Rattle.protobuf_parse_model.specs.Faults.{placed};
 ghost use Rattle.protobuf_parse_model.specs.Options.{message_options_view};
 ghost use Rattle.protobuf_parse_model.specs.Statements.{group_field_name};
 ghost use Rattle.protobuf_parse_model.specs.declared.error.ElabErrorKind.TheVariants.{DanglingTypeName};
@@ -14,6 +14,7 @@ ghost use Rattle.protobuf_parse_elaboration.specs.Parts.{behind_seen, resolved_v
 ghost use Rattle.protobuf_parse_elaboration.specs.Fields as fields;
 ghost use Rattle.protobuf_parse_elaboration.specs.Messages as messages;
 ghost use Rattle.protobuf_parse_elaboration.specs.Viewpoints.{seen_from};
+ghost use Rattle.protobuf_parse_elaboration.specs.Telling.{Tells};
 
 use crate::constructs::declared::DeclaredAs;
 use crate::constructs::field::{field_descriptor, group_field, tell_map};
@@ -159,8 +160,8 @@ pub fn group_message<C: CustomOptions>(
         let g = group_syntax group.now in IfOk result
         (λ m. described.message_view m ≡ messages.group_message env g.name g.fields) }
     ensures faults { let env = seen_from C.customs at.now in
-        OnOk result (found faults.new ≡ found faults.old
-        ++ fields.group_faults env (group_syntax group.now).fields) }
+        Tells result faults.old faults.new
+        (fields.group_faults env (group_syntax group.now).fields) }
 {
     let field = grouped_fields(at, faults, &group.fields)?;
     tell_group_names(at, faults, &group.fields, &field)?;
@@ -177,8 +178,8 @@ fn tell_group_names<C: CustomOptions>(
     requires { let env = seen_from C.customs at.now in
         map described.field_view items.now
         ≡ fields.fields_of_group env (map field_statement_syntax statements.now) }
-    ensures { OnOk result (found faults.new ≡ found faults.old
-        ++ duplicates (map fields.field_named (map field_statement_syntax statements.now))) }
+    ensures { Tells result faults.old faults.new
+        (duplicates (map fields.field_named (map field_statement_syntax statements.now))) }
 {
     let syntax = at.context.syntax;
     tell_names(
@@ -201,8 +202,8 @@ fn grouped_fields<C: CustomOptions>(
         IfOk result (λ v. map described.field_view v.items
         ≡ fields.fields_of_group env (map field_statement_syntax statements.now)) }
     ensures faults { let env = seen_from C.customs at.now in
-        OnOk result (found faults.new ≡ found faults.old
-        ++ flat_map (fields.grouped_faults env) (map field_statement_syntax statements.now)) }
+        Tells result faults.old faults.new
+        (flat_map (fields.grouped_faults env) (map field_statement_syntax statements.now)) }
 {
     let mut fields = Vec::new(at.alloc);
     for statement in statements {
@@ -221,8 +222,8 @@ fn grouped_field<C: CustomOptions>(
         IfOk result (λ d. described.field_view d
         ≡ fields.field_statement_of env fields.of_message (field_statement_syntax statement.now)) }
     ensures faults { let env = seen_from C.customs at.now in
-        OnOk result (found faults.new ≡ found faults.old
-        ++ fields.grouped_faults env (field_statement_syntax statement.now)) }
+        Tells result faults.old faults.new
+        (fields.grouped_faults env (field_statement_syntax statement.now)) }
 {
     let owner = FieldOwner {
         extendee: None,
@@ -242,9 +243,8 @@ fn grouped_field<C: CustomOptions>(
 
 /// E4 for a group.
 fn tell_group(alloc: Global, faults: &mut Vec<ElabError>, group: &Group) -> Result<(), AllocError>
-    ensures { let g = group_syntax group.now in OnOk result
-        (found faults.new ≡ found faults.old
-        ++ placed g.place (fault DanglingTypeName (group_field_name g.name))) }
+    ensures { let g = group_syntax group.now in Tells result faults.old faults.new
+        (placed g.place (fault DanglingTypeName (group_field_name g.name))) }
 {
     let name = group_field_name(alloc, &group.name)?;
     let kind = ElabErrorKind::DanglingTypeName;

@@ -1,11 +1,9 @@
 //! What a file says of itself: its path, its syntax, its package, its imports and its options.
 
 ghost use Rattle.std.specs.Prelude.{◌≡◌, ◌≤◌, ◌++◌, length, map, option_map, string_bytes, IfOk};
-ghost use Rattle.std.specs.Prelude.{OnOk};
 ghost use Rattle.protobuf_parse_syntax.specs.Trees.{file_syntax, package_of, statement_syntax};
 ghost use Rattle.protobuf_parse_model.specs.BuiltinOptions.{file_table};
 ghost use Rattle.protobuf_parse_model.specs.Environment.{customs_bytes};
-ghost use Rattle.protobuf_parse_model.specs.Faults.{found};
 ghost use Rattle.protobuf_parse_model.specs.OptionMessages as sets;
 ghost use Rattle.protobuf_parse_model.specs.Options.{file_options_view};
 ghost use Rattle.protobuf_parse_model.specs.declared.customs.Construct.TheVariants as of;
@@ -15,6 +13,7 @@ ghost use Rattle.protobuf_parse_elaboration.specs.FileDescriptor.{syntax_text};
 ghost use Rattle.protobuf_parse_elaboration.specs.FileParts.{heading_faults, heading_of};
 ghost use Rattle.protobuf_parse_elaboration.specs.FileParts.{heading_view};
 ghost use Rattle.protobuf_parse_elaboration.specs.Viewpoints.{seen_from};
+ghost use Rattle.protobuf_parse_elaboration.specs.Telling.{Tells};
 
 use crate::constructs::options::{custom_bytes, file_options, options_in};
 use crate::constructs::viewpoint::Viewpoint;
@@ -44,8 +43,7 @@ pub fn heading_of<C: CustomOptions>(
     ensures value { let env = seen_from C.customs at.now in
         IfOk result (λ h. heading_view h ≡ heading_of env name.now (file_syntax tree.now)) }
     ensures faults { let env = seen_from C.customs at.now in
-        OnOk result (found faults.new ≡ found faults.old
-        ++ heading_faults env (file_syntax tree.now)) }
+        Tells result faults.old faults.new (heading_faults env (file_syntax tree.now)) }
 {
     let path = String::from_str(at.alloc, name)?;
     let syntax = String::from_str(at.alloc, syntax_text(tree.syntax))?;
@@ -93,8 +91,7 @@ fn told_options<C: CustomOptions>(
         ≡ sets.file_options (customs_bytes env of.File os) os) }
     ensures faults { let env = seen_from C.customs at.now in
         let os = options_of_statements (map statement_syntax statements.now) in
-        OnOk result (found faults.new ≡ found faults.old
-        ++ construct_faults env of.File file_table os) }
+        Tells result faults.old faults.new (construct_faults env of.File file_table os) }
 {
     let options = options_in(at.alloc, statements)?;
     let bytes = custom_bytes(at, faults, Construct::File, &options)?;

@@ -3,7 +3,7 @@
 ghost use Rattle.std.specs.Prelude.{◌≡◌, ◌++◌, map, flat_map, IfOk, OnOk};
 ghost use Rattle.protobuf_parse_syntax.specs.Trees.{field_statement_syntax, oneof_statement_syntax};
 ghost use Rattle.protobuf_parse_syntax.specs.Trees.{oneof_syntax};
-ghost use Rattle.protobuf_parse_model.specs.Faults.{found, placed};
+ghost use Rattle.protobuf_parse_model.specs.Faults.{placed};
 ghost use Rattle.protobuf_parse_model.specs.Statements.{oneof_fields};
 ghost use Rattle.protobuf_parse_elaboration.specs.Parts.{extensions_declared, fields_declared};
 ghost use Rattle.protobuf_parse_elaboration.specs.Parts.{field_owner_view, fields_view};
@@ -11,6 +11,7 @@ ghost use Rattle.protobuf_parse_elaboration.specs.Parts.{statements_seen};
 ghost use Rattle.protobuf_parse_elaboration.specs.Fields.{extension_faults, field_statement_faults};
 ghost use Rattle.protobuf_parse_elaboration.specs.Messages.{extendee_faults, extending};
 ghost use Rattle.protobuf_parse_elaboration.specs.Viewpoints.{seen_from};
+ghost use Rattle.protobuf_parse_elaboration.specs.Telling.{Tells};
 
 use crate::constructs::owner::FieldOwner;
 use crate::constructs::statement::{declared_extension, declared_field};
@@ -48,7 +49,8 @@ pub fn fields_of_oneof<C: CustomOptions>(
         IfOk result (λ d. fields_view d ≡ fields_declared env (field_owner_view owner.now)
         (flat_map oneof_fields (oneof_syntax oneof.now).body)) }
     ensures faults { let env = seen_from C.customs at.now in
-        OnOk result (found faults.new ≡ found faults.old ++ flat_map (field_statement_faults env)
+        Tells result faults.old faults.new
+        (flat_map (field_statement_faults env)
         (flat_map oneof_fields (oneof_syntax oneof.now).body)) }
 {
     let statements = fields_in(at.alloc, &oneof.body)?;
@@ -81,8 +83,8 @@ fn declared_fields<C: CustomOptions>(
         IfOk result (λ d. fields_view d
         ≡ fields_declared env (field_owner_view owner.now) (statements_seen statements.now)) }
     ensures faults { let env = seen_from C.customs at.now in
-        OnOk result (found faults.new ≡ found faults.old
-        ++ flat_map (field_statement_faults env) (statements_seen statements.now)) }
+        Tells result faults.old faults.new
+        (flat_map (field_statement_faults env) (statements_seen statements.now)) }
 {
     let mut fields = Vec::new(at.alloc);
     let mut behind = Vec::new(at.alloc);
@@ -107,9 +109,8 @@ pub fn fields_of_extend<C: CustomOptions>(
         (λ d. fields_view d ≡ extensions_declared env (extending env extendee.now) ss) }
     ensures faults { let env = seen_from C.customs at.now in
         let ss = map field_statement_syntax statements.now in
-        OnOk result (found faults.new ≡ found faults.old
-        ++ (placed place (extendee_faults env extendee.now ss)
-        ++ flat_map (extension_faults env) ss)) }
+        Tells result faults.old faults.new
+        (placed place (extendee_faults env extendee.now ss) ++ flat_map (extension_faults env) ss) }
 {
     if statements.is_empty() {
         return Ok(DeclaredFields {
@@ -136,8 +137,8 @@ fn declared_extensions<C: CustomOptions>(
         let ss = map field_statement_syntax statements.now in IfOk result
         (λ d. fields_view d ≡ extensions_declared env (field_owner_view owner.now) ss) }
     ensures faults { let env = seen_from C.customs at.now in
-        OnOk result (found faults.new ≡ found faults.old
-        ++ flat_map (extension_faults env) (map field_statement_syntax statements.now)) }
+        Tells result faults.old faults.new
+        (flat_map (extension_faults env) (map field_statement_syntax statements.now)) }
 {
     let mut fields = Vec::new(at.alloc);
     let mut behind = Vec::new(at.alloc);

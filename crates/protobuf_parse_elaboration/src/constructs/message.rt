@@ -9,11 +9,11 @@ ghost use Rattle.protobuf_parse_model.specs.SeenFiles.{name_texts};
 ghost use Rattle.protobuf_parse_model.specs.Declarations as names;
 ghost use Rattle.protobuf_parse_model.specs.Descriptors as described;
 ghost use Rattle.protobuf_parse_model.specs.Environment.{env_inside};
-ghost use Rattle.protobuf_parse_model.specs.Faults.{found};
 ghost use Rattle.protobuf_parse_elaboration.specs.Parts as contexts;
 ghost use Rattle.protobuf_parse_elaboration.specs.Parts.{body_view, with_body_statement};
 ghost use Rattle.protobuf_parse_elaboration.specs.Messages as messages;
 ghost use Rattle.protobuf_parse_elaboration.specs.Viewpoints.{seen_from};
+ghost use Rattle.protobuf_parse_elaboration.specs.Telling.{Tells};
 
 use crate::constructs::body::{Body, add_enum, add_extend, add_field, add_oneof};
 use crate::constructs::declared::DeclaredAs;
@@ -40,8 +40,8 @@ pub fn message_descriptor<C: CustomOptions>(
         IfOk result (λ d. described.message_view d ∷ []
         ≡ messages.nested_of env (nested_message (message_syntax message.now))) }
     ensures faults { let env = seen_from C.customs at.now in
-        OnOk result (found faults.new ≡ found faults.old
-        ++ messages.statement_faults env (nested_message (message_syntax message.now))) }
+        Tells result faults.old faults.new
+        (messages.statement_faults env (nested_message (message_syntax message.now))) }
 {
     message_of_body(at, faults, &message.name, &message.body)
 }
@@ -63,9 +63,9 @@ fn message_of_body<C: CustomOptions>(
         (λ d. described.message_view d ≡ messages.message_from env name.now ss nested) }
     ensures faults { let env = seen_from C.customs at.now in
         let ss = map message_statement_syntax body.now in
-        OnOk result (found faults.new ≡ found faults.old
-        ++ (flat_map (messages.statement_faults (env_inside env name.now)) ss
-        ++ messages.whole_faults env name.now ss)) }
+        Tells result faults.old faults.new
+        (flat_map (messages.statement_faults (env_inside env name.now)) ss
+        ++ messages.whole_faults env name.now ss) }
 {
     let parts = body_inside(at, faults, name, body)?;
     finished(at, faults, name, body, parts)
@@ -88,8 +88,8 @@ fn finished<C: CustomOptions>(
         IfOk result (λ d. described.message_view d ≡ contexts.message_of_both name.now
         (body_view parts) (contexts.rest_of env ss)) }
     ensures faults { let env = seen_from C.customs at.now in
-        OnOk result (found faults.new ≡ found faults.old
-        ++ messages.whole_faults env name.now (map message_statement_syntax body.now)) }
+        Tells result faults.old faults.new
+        (messages.whole_faults env name.now (map message_statement_syntax body.now)) }
 {
     tell_body_names(at, faults, name, body, &parts)?;
     let copy = Name::new(at.alloc, name)?;
@@ -109,8 +109,8 @@ fn tell_body_names<C: CustomOptions>(
         body_view body.now
         ≡ contexts.body_of (env_inside env name.now) (map message_statement_syntax statements.now) }
     ensures { let env = seen_from C.customs at.now in
-        OnOk result (found faults.new ≡ found faults.old ++ messages.body_duplicates env.syntax
-        (map message_statement_syntax statements.now)) }
+        Tells result faults.old faults.new
+        (messages.body_duplicates env.syntax (map message_statement_syntax statements.now)) }
 {
     let alloc = at.alloc;
     let syntax = at.context.syntax;
@@ -185,8 +185,8 @@ fn body_inside<C: CustomOptions>(
         IfOk result (λ b. body_view b ≡ contexts.body_of (env_inside env name.now) ss) }
     ensures faults { let env = seen_from C.customs at.now in
         let ss = map message_statement_syntax body.now in
-        OnOk result (found faults.new ≡ found faults.old
-        ++ flat_map (messages.statement_faults (env_inside env name.now)) ss) }
+        Tells result faults.old faults.new
+        (flat_map (messages.statement_faults (env_inside env name.now)) ss) }
 {
     let scope = scope_inside(at.alloc, at.context.scope, name)?;
     let inner = Viewpoint {
@@ -214,8 +214,8 @@ fn body_of<C: CustomOptions>(
         IfOk result (λ b. body_view b
         ≡ contexts.body_of env (map message_statement_syntax statements.now)) }
     ensures faults { let env = seen_from C.customs at.now in
-        OnOk result (found faults.new ≡ found faults.old ++ flat_map
-        (messages.statement_faults env) (map message_statement_syntax statements.now)) }
+        Tells result faults.old faults.new
+        (flat_map (messages.statement_faults env) (map message_statement_syntax statements.now)) }
 {
     let mut body = Body {
         field: Vec::with_capacity(at.alloc, statements.len())?,
@@ -244,8 +244,8 @@ fn add_statement<C: CustomOptions>(
         let s = message_statement_syntax statement.now in
         OnOk result (body_view body.new ≡ with_body_statement env (body_view body.old) s) }
     ensures faults { let env = seen_from C.customs at.now in
-        OnOk result (found faults.new ≡ found faults.old
-        ++ messages.statement_faults env (message_statement_syntax statement.now)) }
+        Tells result faults.old faults.new
+        (messages.statement_faults env (message_statement_syntax statement.now)) }
 {
     match statement {
         MessageStatement::Field(field) => add_field(at, faults, body, field),
@@ -272,8 +272,8 @@ fn add_message<C: CustomOptions>(
         let s = nested_message (message_syntax message.now) in
         OnOk result (body_view body.new ≡ with_body_statement env (body_view body.old) s) }
     ensures faults { let env = seen_from C.customs at.now in
-        OnOk result (found faults.new ≡ found faults.old
-        ++ messages.statement_faults env (nested_message (message_syntax message.now))) }
+        Tells result faults.old faults.new
+        (messages.statement_faults env (nested_message (message_syntax message.now))) }
 {
     let nested = message_descriptor(at, faults, message)?;
     body.nested_type.push(nested)?;

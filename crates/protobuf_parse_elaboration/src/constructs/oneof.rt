@@ -1,13 +1,12 @@
 //! Oneofs.
 
-ghost use Rattle.std.specs.Prelude.{◌≡◌, ◌++◌, map, flat_map, option_map, IfOk, OnOk};
+ghost use Rattle.std.specs.Prelude.{◌≡◌, ◌++◌, map, flat_map, option_map, IfOk};
 ghost use Rattle.protobuf_parse_syntax.specs.Trees.{field_statement_syntax, oneof_statement_syntax};
 ghost use Rattle.protobuf_parse_syntax.specs.Trees.{oneof_syntax};
 ghost use Rattle.protobuf_parse_model.specs.BuiltinOptions.{oneof_table};
 ghost use Rattle.protobuf_parse_model.specs.Environment.{customs_bytes};
 ghost use Rattle.protobuf_parse_model.specs.declared.customs.Construct.TheVariants as of;
 ghost use Rattle.protobuf_parse_model.specs.Descriptors as described;
-ghost use Rattle.protobuf_parse_model.specs.Faults.{found};
 ghost use Rattle.protobuf_parse_model.specs.Options.{oneof_options_view};
 ghost use Rattle.protobuf_parse_model.specs.OptionMessages as sets;
 ghost use Rattle.protobuf_parse_model.specs.Statements as statements;
@@ -15,6 +14,7 @@ ghost use Rattle.protobuf_parse_elaboration.specs.ConstructOptions.{construct_fa
 ghost use Rattle.protobuf_parse_elaboration.specs.Fields.{says_optional};
 ghost use Rattle.protobuf_parse_elaboration.specs.Messages as messages;
 ghost use Rattle.protobuf_parse_elaboration.specs.Viewpoints.{seen_from};
+ghost use Rattle.protobuf_parse_elaboration.specs.Telling.{Tells};
 
 use crate::constructs::field::says_optional;
 use crate::constructs::options::{custom_bytes, oneof_options, options_in};
@@ -36,8 +36,9 @@ pub fn oneof_descriptor<C: CustomOptions>(
     ensures value { let env = seen_from C.customs at.now in
         IfOk result (λ d. described.oneof_view d ≡ messages.oneof_of env (oneof_syntax oneof.now)) }
     ensures faults { let env = seen_from C.customs at.now in
-        OnOk result (found faults.new ≡ found faults.old ++ construct_faults env of.Oneof
-        oneof_table (messages.options_in_oneof (oneof_syntax oneof.now))) }
+        Tells result faults.old faults.new
+        (construct_faults env of.Oneof oneof_table
+        (messages.options_in_oneof (oneof_syntax oneof.now))) }
 {
     let name = oneof.name.clone()?;
     let options = told_options(at, faults, &oneof.body)?;
@@ -59,8 +60,7 @@ fn told_options<C: CustomOptions>(
     ensures faults { let env = seen_from C.customs at.now in
         let os = flat_map statements.oneof_statement_options
         (map oneof_statement_syntax body.now) in
-        OnOk result (found faults.new ≡ found faults.old
-        ++ construct_faults env of.Oneof oneof_table os) }
+        Tells result faults.old faults.new (construct_faults env of.Oneof oneof_table os) }
 {
     let options = options_in(at.alloc, body)?;
     let bytes = custom_bytes(at, faults, Construct::Oneof, &options)?;

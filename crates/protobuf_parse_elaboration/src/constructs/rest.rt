@@ -1,10 +1,10 @@
 //! The ranges and the options of messages.
 
-ghost use Rattle.std.specs.Prelude.{◌≡◌, ◌++◌, map, flat_map, option_map, IfOk, OnOk};
+ghost use Rattle.std.specs.Prelude.{◌≡◌, ◌++◌, map, flat_map, option_map, IfOk};
 ghost use Rattle.protobuf_parse_syntax.specs.Trees.{message_statement_syntax, range_syntax};
 ghost use Rattle.protobuf_parse_model.specs.BuiltinOptions.{message_table};
 ghost use Rattle.protobuf_parse_model.specs.Descriptors as described;
-ghost use Rattle.protobuf_parse_model.specs.Faults.{found, placed};
+ghost use Rattle.protobuf_parse_model.specs.Faults.{placed};
 ghost use Rattle.protobuf_parse_model.specs.Environment.{customs_bytes};
 ghost use Rattle.protobuf_parse_model.specs.declared.customs.Construct.TheVariants as of;
 ghost use Rattle.protobuf_parse_model.specs.Options.{message_options_view};
@@ -15,6 +15,7 @@ ghost use Rattle.protobuf_parse_elaboration.specs.Parts.{rest_view};
 ghost use Rattle.protobuf_parse_elaboration.specs.Enums as enums;
 ghost use Rattle.protobuf_parse_elaboration.specs.Messages as messages;
 ghost use Rattle.protobuf_parse_elaboration.specs.Viewpoints.{seen_from};
+ghost use Rattle.protobuf_parse_elaboration.specs.Telling.{Tells};
 
 use crate::constructs::options::{custom_bytes, message_options, options_in};
 use crate::constructs::reserved::{
@@ -50,8 +51,8 @@ pub fn rest_of_message<C: CustomOptions>(
     ensures value { let env = seen_from C.customs at.now in
         IfOk result (λ r. rest_view r ≡ rest_of env (map message_statement_syntax body.now)) }
     ensures faults { let env = seen_from C.customs at.now in
-        OnOk result (found faults.new ≡ found faults.old
-        ++ messages.rest_faults env name.now (map message_statement_syntax body.now)) }
+        Tells result faults.old faults.new
+        (messages.rest_faults env name.now (map message_statement_syntax body.now)) }
 {
     tell_ranges(at.alloc, faults, name, body)?;
     let extension_range = extensions(at.alloc, body)?;
@@ -72,8 +73,8 @@ fn tell_ranges(
     name: &str,
     body: &[MessageStatement],
 ) -> Result<(), AllocError>
-    ensures { OnOk result (found faults.new ≡ found faults.old
-        ++ flat_map (messages.range_faults name.now) (map message_statement_syntax body.now)) }
+    ensures { Tells result faults.old faults.new
+        (flat_map (messages.range_faults name.now) (map message_statement_syntax body.now)) }
 {
     for statement in body {
         tell_ranges_of(alloc, faults, name, statement)?;
@@ -88,8 +89,8 @@ fn tell_ranges_of(
     name: &str,
     statement: &MessageStatement,
 ) -> Result<(), AllocError>
-    ensures { OnOk result (found faults.new ≡ found faults.old
-        ++ messages.range_faults name.now (message_statement_syntax statement.now)) }
+    ensures { Tells result faults.old faults.new
+        (messages.range_faults name.now (message_statement_syntax statement.now)) }
 {
     match statement {
         MessageStatement::Extensions(extensions) => {
@@ -111,8 +112,8 @@ fn tell_endless(
     name: &str,
     ranges: &[FieldNumberRange],
 ) -> Result<(), AllocError>
-    ensures { OnOk result (found faults.new ≡ found faults.old
-        ++ placed place (messages.ranges_faults name.now (map range_syntax ranges.now))) }
+    ensures { Tells result faults.old faults.new
+        (placed place (messages.ranges_faults name.now (map range_syntax ranges.now))) }
 {
     if has_endless(ranges) {
         return tell(alloc, faults, place, ElabErrorKind::RangeEndOverflow, name);
@@ -207,8 +208,7 @@ fn told_options<C: CustomOptions>(
         ≡ sets.message_options (customs_bytes env of.Message os) os) }
     ensures faults { let env = seen_from C.customs at.now in
         let os = messages.options_of_body (map message_statement_syntax body.now) in
-        OnOk result (found faults.new ≡ found faults.old
-        ++ construct_faults env of.Message message_table os) }
+        Tells result faults.old faults.new (construct_faults env of.Message message_table os) }
 {
     let options = options_in(at.alloc, body)?;
     let bytes = custom_bytes(at, faults, Construct::Message, &options)?;

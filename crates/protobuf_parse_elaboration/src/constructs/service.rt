@@ -1,7 +1,7 @@
 //! Services.
 
 ghost use Rattle.std.specs.Prelude.{◌≡◌, ◌++◌, [], map, flat_map, option_map, string_bytes};
-ghost use Rattle.std.specs.Prelude.{unwrap_or, IfOk, OnOk};
+ghost use Rattle.std.specs.Prelude.{unwrap_or, IfOk};
 ghost use Rattle.protobuf_parse_syntax.specs.Trees as tree;
 ghost use Rattle.protobuf_parse_model.specs.BuiltinOptions.{method_table, service_table};
 ghost use Rattle.protobuf_parse_model.specs.Descriptors as described;
@@ -9,13 +9,14 @@ ghost use Rattle.protobuf_parse_model.specs.Environment.{customs_bytes, type_ful
 ghost use Rattle.protobuf_parse_model.specs.Environment.{type_missing};
 ghost use Rattle.protobuf_parse_model.specs.declared.customs.Construct.TheVariants as of;
 ghost use Rattle.protobuf_parse_model.specs.Duplicates.{duplicates};
-ghost use Rattle.protobuf_parse_model.specs.Faults.{found, placed};
+ghost use Rattle.protobuf_parse_model.specs.Faults.{placed};
 ghost use Rattle.protobuf_parse_model.specs.Options.{method_options_view, service_options_view};
 ghost use Rattle.protobuf_parse_model.specs.OptionMessages as sets;
 ghost use Rattle.protobuf_parse_elaboration.specs.ConstructOptions.{construct_faults};
 ghost use Rattle.protobuf_parse_elaboration.specs.Parts.{methods_seen};
 ghost use Rattle.protobuf_parse_elaboration.specs.Services as services;
 ghost use Rattle.protobuf_parse_elaboration.specs.Viewpoints.{seen_from};
+ghost use Rattle.protobuf_parse_elaboration.specs.Telling.{Tells};
 
 use crate::constructs::declared::DeclaredAs;
 use crate::constructs::options::{custom_bytes, method_options, options_in, service_options};
@@ -43,8 +44,8 @@ pub fn service_descriptor<C: CustomOptions>(
         IfOk result (λ d. described.service_view d
         ≡ services.service_of env (tree.service_syntax service.now)) }
     ensures faults { let env = seen_from C.customs at.now in
-        OnOk result (found faults.new ≡ found faults.old
-        ++ services.service_faults env (tree.service_syntax service.now)) }
+        Tells result faults.old faults.new
+        (services.service_faults env (tree.service_syntax service.now)) }
 {
     let method = service_methods(at, faults, &service.body)?;
     let name = service.name.clone()?;
@@ -68,7 +69,7 @@ fn service_methods<C: CustomOptions>(
         IfOk result (λ v. map described.method_view v.items ≡ map (services.method_of env) ms) }
     ensures faults { let env = seen_from C.customs at.now in
         let ms = flat_map services.methods_in (map tree.service_statement_syntax body.now) in
-        OnOk result (found faults.new ≡ found faults.old ++ services.methods_faults env ms) }
+        Tells result faults.old faults.new (services.methods_faults env ms) }
 {
     let methods = methods(at.alloc, body)?;
     tell_method_names(at, faults, &methods)?;
@@ -81,8 +82,8 @@ fn tell_method_names<C: CustomOptions>(
     faults: &mut Vec<ElabError>,
     methods: &[&Method],
 ) -> Result<(), AllocError>
-    ensures { OnOk result (found faults.new ≡ found faults.old
-        ++ duplicates (map services.method_named (methods_seen methods.now))) }
+    ensures { Tells result faults.old faults.new
+        (duplicates (map services.method_named (methods_seen methods.now))) }
 {
     let syntax = at.context.syntax;
     tell_names(
@@ -120,8 +121,8 @@ fn method_descriptors<C: CustomOptions>(
         IfOk result (λ v. map described.method_view v.items
         ≡ map (services.method_of env) (methods_seen methods.now)) }
     ensures faults { let env = seen_from C.customs at.now in
-        OnOk result (found faults.new ≡ found faults.old
-        ++ flat_map (services.method_faults env) (methods_seen methods.now)) }
+        Tells result faults.old faults.new
+        (flat_map (services.method_faults env) (methods_seen methods.now)) }
 {
     let mut descriptors = Vec::with_capacity(at.alloc, methods.len())?;
     for method in methods {
@@ -139,8 +140,8 @@ fn method_descriptor<C: CustomOptions>(
         IfOk result (λ d. described.method_view d
         ≡ services.method_of env (tree.method_syntax method.now)) }
     ensures faults { let env = seen_from C.customs at.now in
-        OnOk result (found faults.new ≡ found faults.old
-        ++ services.method_faults env (tree.method_syntax method.now)) }
+        Tells result faults.old faults.new
+        (services.method_faults env (tree.method_syntax method.now)) }
 {
     let input_type = method_type(at, faults, method.place, &method.input)?;
     let output_type = method_type(at, faults, method.place, &method.output)?;
@@ -166,8 +167,7 @@ fn method_type<C: CustomOptions>(
     ensures value { let env = seen_from C.customs at.now in
         IfOk result (λ s. string_bytes s ≡ unwrap_or (type_full_name env name.now) []) }
     ensures faults { let env = seen_from C.customs at.now in
-        OnOk result (found faults.new ≡ found faults.old
-        ++ placed place (type_missing env name.now)) }
+        Tells result faults.old faults.new (placed place (type_missing env name.now)) }
 {
     match type_full_name(at, faults, place, name)? {
         Some(name) => Ok(name),
@@ -188,8 +188,7 @@ fn told_method_options<C: CustomOptions>(
         ≡ sets.method_options (customs_bytes env of.Method os) os) }
     ensures faults { let env = seen_from C.customs at.now in
         let os = map services.statement_option (map tree.option_statement_syntax statements.now) in
-        OnOk result (found faults.new ≡ found faults.old
-        ++ construct_faults env of.Method method_table os) }
+        Tells result faults.old faults.new (construct_faults env of.Method method_table os) }
 {
     let options = options_in(at.alloc, statements)?;
     let bytes = custom_bytes(at, faults, Construct::Method, &options)?;
@@ -211,8 +210,7 @@ fn told_options<C: CustomOptions>(
     ensures faults { let env = seen_from C.customs at.now in
         let os = flat_map services.options_in_service
         (map tree.service_statement_syntax body.now) in
-        OnOk result (found faults.new ≡ found faults.old
-        ++ construct_faults env of.Service service_table os) }
+        Tells result faults.old faults.new (construct_faults env of.Service service_table os) }
 {
     let options = options_in(at.alloc, body)?;
     let bytes = custom_bytes(at, faults, Construct::Service, &options)?;

@@ -4,12 +4,12 @@ ghost use Rattle.std.specs.Prelude.{◌≡◌, [], ◌∷◌, ◌++◌, IfOk, On
 ghost use Rattle.protobuf_parse_syntax.specs.Trees as tree;
 ghost use Rattle.protobuf_parse_syntax.specs.Trees.{field_syntax, field_statement_syntax, group_of};
 ghost use Rattle.protobuf_parse_syntax.specs.Trees.{group_syntax};
-ghost use Rattle.protobuf_parse_model.specs.Faults.{found};
 ghost use Rattle.protobuf_parse_elaboration.specs.Parts.{behind_seen, declared_view};
 ghost use Rattle.protobuf_parse_elaboration.specs.Parts.{field_declared_by, extension_declared_by};
 ghost use Rattle.protobuf_parse_elaboration.specs.Parts.{field_owner_view};
 ghost use Rattle.protobuf_parse_elaboration.specs.Fields as fields;
 ghost use Rattle.protobuf_parse_elaboration.specs.Viewpoints.{seen_from};
+ghost use Rattle.protobuf_parse_elaboration.specs.Telling.{Tells};
 
 use crate::constructs::field::{field_descriptor, group_field, tell_map};
 use crate::constructs::generated::{boxed, group_message, map_entry};
@@ -84,8 +84,8 @@ pub fn declared_field<C: CustomOptions>(
         IfOk result (λ d. declared_view d ≡ field_declared_by env (field_owner_view owner.now)
         (field_statement_syntax statement.now)) }
     ensures faults { let env = seen_from C.customs at.now in
-        OnOk result (found faults.new ≡ found faults.old
-        ++ fields.field_statement_faults env (field_statement_syntax statement.now)) }
+        Tells result faults.old faults.new
+        (fields.field_statement_faults env (field_statement_syntax statement.now)) }
 {
     match statement {
         FieldStatement::Field(field) => declared_plain(at, faults, owner, field),
@@ -104,8 +104,8 @@ pub fn declared_extension<C: CustomOptions>(
         IfOk result (λ d. declared_view d ≡ extension_declared_by env (field_owner_view owner.now)
         (field_statement_syntax statement.now)) }
     ensures faults { let env = seen_from C.customs at.now in
-        OnOk result (found faults.new ≡ found faults.old
-        ++ fields.extension_faults env (field_statement_syntax statement.now)) }
+        Tells result faults.old faults.new
+        (fields.extension_faults env (field_statement_syntax statement.now)) }
 {
     match statement {
         FieldStatement::Field(field) => declared_without_entry(at, faults, owner, field),
@@ -125,8 +125,7 @@ fn declared_plain<C: CustomOptions>(
         IfOk result (λ d. declared_view d ≡ field_declared_by env (field_owner_view owner.now)
         (tree.field (field_syntax field.now))) }
     ensures faults { let env = seen_from C.customs at.now in
-        OnOk result (found faults.new ≡ found faults.old
-        ++ fields.field_faults env (field_syntax field.now)) }
+        Tells result faults.old faults.new (fields.field_faults env (field_syntax field.now)) }
 {
     let behind = map_entry(at, &field.name, &field.type_)?;
     let field = field_descriptor(at, faults, owner, field)?;
@@ -144,8 +143,8 @@ fn declared_without_entry<C: CustomOptions>(
         IfOk result (λ d. declared_view d ≡ extension_declared_by env (field_owner_view owner.now)
         (tree.field (field_syntax field.now))) }
     ensures faults { let env = seen_from C.customs at.now in
-        OnOk result (found faults.new ≡ found faults.old
-        ++ fields.extension_faults env (tree.field (field_syntax field.now))) }
+        Tells result faults.old faults.new
+        (fields.extension_faults env (tree.field (field_syntax field.now))) }
 {
     tell_map(at.alloc, faults, field)?;
     let field = field_descriptor(at, faults, owner, field)?;
@@ -167,8 +166,8 @@ fn declared_group<C: CustomOptions>(
         IfOk result (λ d. declared_view d ≡ field_declared_by env (field_owner_view owner.now)
         (group_of (group_syntax group.now))) }
     ensures faults { let env = seen_from C.customs at.now in
-        OnOk result (found faults.new ≡ found faults.old
-        ++ fields.field_statement_faults env (group_of (group_syntax group.now))) }
+        Tells result faults.old faults.new
+        (fields.field_statement_faults env (group_of (group_syntax group.now))) }
 {
     let message = group_message(at, faults, group)?;
     let message = boxed(at.alloc, message)?;

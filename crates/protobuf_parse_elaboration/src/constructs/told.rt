@@ -1,11 +1,12 @@
 //! Names that stand twice in a scope, each told at its place.
 
-ghost use Rattle.std.specs.Prelude.{◌≡◌, ◌++◌, List, flat_map, length, map, not, IfOk, OnOk};
+ghost use Rattle.std.specs.Prelude.{◌≡◌, ◌++◌, List, flat_map, length, map, not, IfOk};
 ghost use Rattle.protobuf_parse_model.specs.Duplicates as spec;
 ghost use Rattle.protobuf_parse_model.specs.Duplicates.{duplicates, fault_when};
-ghost use Rattle.protobuf_parse_model.specs.Faults.{found, placed};
+ghost use Rattle.protobuf_parse_model.specs.Faults.{placed};
 ghost use Rattle.protobuf_parse_model.specs.declared.error.ElabErrorKind.TheVariants.{DuplicateName};
 ghost use Rattle.protobuf_parse_elaboration.specs.Declaring.{names_at};
+ghost use Rattle.protobuf_parse_elaboration.specs.Telling.{Tells};
 
 use crate::constructs::declared::{DeclaredAs, Declares, places_of};
 use crate::constructs::names::Named;
@@ -36,8 +37,8 @@ pub fn tell_names<S: Declares, T: Named>(
 ) -> Result<(), AllocError>
     requires named { map T.name_of items.now ≡ map (λ (d : spec.NamedAt). d.name)
         (flat_map (S.named_as declared syntax) statements.now) }
-    ensures { OnOk result (found faults.new ≡ found faults.old
-        ++ duplicates (flat_map (S.named_as declared syntax) statements.now)) }
+    ensures { Tells result faults.old faults.new
+        (duplicates (flat_map (S.named_as declared syntax) statements.now)) }
 {
     if are_unlike(alloc, items)? {
         return Ok(());
@@ -58,7 +59,7 @@ pub fn tell_repeated<T: Named>(
     ensures { (declared : List spec.NamedAt)
         → map T.name_of items.now ≡ map (λ (d : spec.NamedAt). d.name) declared
         → places.now ≡ map (λ (d : spec.NamedAt). d.place) declared
-        → OnOk result (found faults.new ≡ found faults.old ++ duplicates declared) }
+        → Tells result faults.old faults.new (duplicates declared) }
 {
     if are_unlike(alloc, items)? {
         return Ok(());
@@ -77,7 +78,7 @@ fn tell_at<T: Named>(
     ensures { (declared : List spec.NamedAt)
         → map T.name_of items.now ≡ map (λ (d : spec.NamedAt). d.name) declared
         → places.now ≡ map (λ (d : spec.NamedAt). d.place) declared
-        → OnOk result (found faults.new ≡ found faults.old ++ duplicates declared) }
+        → Tells result faults.old faults.new (duplicates declared) }
 {
     let names = at_places(alloc, items, places)?;
     tell_repeats(alloc, faults, &names)
@@ -111,8 +112,7 @@ fn tell_repeats(
     faults: &mut Vec<ElabError>,
     names: &[NamedAt<'_>],
 ) -> Result<(), AllocError>
-    ensures { OnOk result
-        (found faults.new ≡ found faults.old ++ duplicates (names_at names.now)) }
+    ensures { Tells result faults.old faults.new (duplicates (names_at names.now)) }
 {
     let mut seen: BTreeSet<&str> = BTreeSet::new(alloc);
     for named in names {
@@ -129,8 +129,8 @@ fn tell_unless_new(
     named: &NamedAt<'_>,
     is_new: bool,
 ) -> Result<(), AllocError>
-    ensures { OnOk result (found faults.new ≡ found faults.old
-        ++ placed named.now.place (fault_when (not is_new) DuplicateName named.now.name.now)) }
+    ensures { Tells result faults.old faults.new
+        (placed named.now.place (fault_when (not is_new) DuplicateName named.now.name.now)) }
 {
     if is_new {
         return Ok(());

@@ -1,17 +1,18 @@
 //! The types of fields.
 
-ghost use Rattle.std.specs.Prelude.{◌≡◌, ◌++◌, Some, None, option_map, string_bytes, IfOk, OnOk};
+ghost use Rattle.std.specs.Prelude.{◌≡◌, ◌++◌, Some, None, option_map, string_bytes, IfOk};
 ghost use Rattle.protobuf_parse_syntax.specs.Trees.{type_syntax};
 ghost use Rattle.protobuf_parse_model.specs.Declarations.{full_name};
 ghost use Rattle.protobuf_parse_model.specs.SeenFiles.{meaning_view};
 ghost use Rattle.protobuf_parse_model.specs.Statements.{entry_name};
 ghost use Rattle.protobuf_parse_model.specs.Environment.{missing_name, type_full_name};
 ghost use Rattle.protobuf_parse_model.specs.Environment.{type_missing, type_named};
-ghost use Rattle.protobuf_parse_model.specs.Faults.{found, placed};
+ghost use Rattle.protobuf_parse_model.specs.Faults.{placed};
 ghost use Rattle.protobuf_parse_elaboration.specs.Parts.{resolved_view};
 ghost use Rattle.protobuf_parse_elaboration.specs.Fields.{inner_type_faults, type_faults, type_of};
 ghost use Rattle.protobuf_parse_elaboration.specs.Fields.{type_of_meaning};
 ghost use Rattle.protobuf_parse_elaboration.specs.Viewpoints.{seen_from};
+ghost use Rattle.protobuf_parse_elaboration.specs.Telling.{Tells};
 
 use crate::constructs::viewpoint::Viewpoint;
 use protobuf_parse_lexer::Place;
@@ -45,8 +46,8 @@ pub fn resolved_type<C: CustomOptions>(
     ensures value { let env = seen_from C.customs at.now in
         IfOk result (λ r. resolved_view r ≡ type_of env name.now (type_syntax type_.now)) }
     ensures faults { let env = seen_from C.customs at.now in
-        OnOk result (found faults.new ≡ found faults.old
-        ++ placed place (type_faults env name.now (type_syntax type_.now))) }
+        Tells result faults.old faults.new
+        (placed place (type_faults env name.now (type_syntax type_.now))) }
 {
     match type_ {
         Type::Scalar(scalar) => Ok(scalar_type(FieldType::from(*scalar))),
@@ -75,8 +76,7 @@ fn named_type<C: CustomOptions>(
     ensures value { let env = seen_from C.customs at.now in
         IfOk result (λ r. resolved_view r ≡ type_of_meaning (type_named env name.now)) }
     ensures faults { let env = seen_from C.customs at.now in
-        OnOk result (found faults.new ≡ found faults.old
-        ++ placed place (type_missing env name.now)) }
+        Tells result faults.old faults.new (placed place (type_missing env name.now)) }
 {
     match type_named(at.alloc, &at.context, name)? {
         Some(meaning) => Ok(declared_type(meaning)),
@@ -103,8 +103,7 @@ fn tell_missing(
     place: Place,
     name: &str,
 ) -> Result<(), AllocError>
-    ensures { OnOk result
-        (found faults.new ≡ found faults.old ++ placed place (missing_name name.now)) }
+    ensures { Tells result faults.old faults.new (placed place (missing_name name.now)) }
 {
     let kind = if name.starts_with('.') {
         ElabErrorKind::NotFoundByAbsPath
@@ -124,8 +123,8 @@ fn tell_inner<C: CustomOptions>(
     type_: &Type,
 ) -> Result<(), AllocError>
     ensures { let env = seen_from C.customs at.now in
-        OnOk result (found faults.new ≡ found faults.old
-        ++ placed place (inner_type_faults env name.now (type_syntax type_.now))) }
+        Tells result faults.old faults.new
+        (placed place (inner_type_faults env name.now (type_syntax type_.now))) }
 {
     match type_ {
         Type::Scalar(_) => Ok(()),
@@ -192,8 +191,7 @@ pub fn type_full_name<C: CustomOptions>(
     ensures value { let env = seen_from C.customs at.now in
         IfOk result (λ s. option_map string_bytes s ≡ type_full_name env name.now) }
     ensures faults { let env = seen_from C.customs at.now in
-        OnOk result (found faults.new ≡ found faults.old
-        ++ placed place (type_missing env name.now)) }
+        Tells result faults.old faults.new (placed place (type_missing env name.now)) }
 {
     match type_named(at.alloc, &at.context, name)? {
         Some(meaning) => Ok(Some(meaning.name)),

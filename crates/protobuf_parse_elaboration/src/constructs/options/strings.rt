@@ -5,8 +5,9 @@ ghost use Rattle.protobuf_parse_lexer.specs.Decoder.{decode, text_of};
 ghost use Rattle.protobuf_parse_lexer.specs.declared.lexer.str_lit.StrLitDecodeError.TheVariants.{Memory};
 ghost use Rattle.protobuf_parse_syntax.specs.Trees.{pieces_of};
 ghost use Rattle.protobuf_parse_model.specs.BuiltinOptions.{string_faults};
-ghost use Rattle.protobuf_parse_model.specs.Faults.{found, placed};
+ghost use Rattle.protobuf_parse_model.specs.Faults.{placed};
 ghost use Rattle.protobuf_parse_elaboration.specs.Fields.{text_or_empty};
+ghost use Rattle.protobuf_parse_elaboration.specs.Telling.{Tells};
 
 use protobuf_parse_lexer::Place;
 use protobuf_parse_model::{ElabError, ElabErrorKind, tell};
@@ -62,8 +63,8 @@ pub fn text_given(
 ) -> Result<String, AllocError>
     ensures value { IfOk result
         (λ s. string_bytes s ≡ text_or_empty (text_of (pieces_of string.now))) }
-    ensures faults { OnOk result (found faults.new ≡ found faults.old
-        ++ placed place (string_faults name.now (text_of (pieces_of string.now)))) }
+    ensures faults { Tells result faults.old faults.new
+        (placed place (string_faults name.now (text_of (pieces_of string.now)))) }
 {
     match decoded_text(alloc, string)? {
         Some(text) => Ok(text),
@@ -84,8 +85,8 @@ pub fn bytes_given(
     string: &StrLit,
 ) -> Result<Vec<u8>, AllocError>
     ensures value { IfOk result (λ v. v.items ≡ text_or_empty (decode (pieces_of string.now))) }
-    ensures faults { OnOk result (found faults.new ≡ found faults.old
-        ++ placed place (string_faults name.now (decode (pieces_of string.now)))) }
+    ensures faults { Tells result faults.old faults.new
+        (placed place (string_faults name.now (decode (pieces_of string.now)))) }
 {
     match decoded_bytes(alloc, string)? {
         Some(bytes) => Ok(bytes),

@@ -1,6 +1,6 @@
 //! What is wrong in the options among statements, each fault at its option.
 
-ghost use Rattle.std.specs.Prelude.{◌≡◌, ◌++◌, ℕ, List, bytes_eq, map, option_map, IfOk, OnOk};
+ghost use Rattle.std.specs.Prelude.{◌≡◌, ◌++◌, ℕ, List, bytes_eq, map, option_map, IfOk};
 ghost use Rattle.std.specs.Borrow.{Bor};
 ghost use Rattle.std.specs.List.{find};
 ghost use Rattle.protobuf_parse_syntax.specs.Trees.{constant_syntax, option_syntax};
@@ -8,7 +8,7 @@ ghost use Rattle.protobuf_parse_model.specs.BuiltinOptions as spec;
 ghost use Rattle.protobuf_parse_model.specs.declared.customs.Construct.TheVariants as of;
 ghost use Rattle.protobuf_parse_model.specs.Duplicates.{stands_in};
 ghost use Rattle.protobuf_parse_model.specs.Environment.{customs_bytes, customs_faults};
-ghost use Rattle.protobuf_parse_model.specs.Faults.{found, placed};
+ghost use Rattle.protobuf_parse_model.specs.Faults.{placed};
 ghost use Rattle.protobuf_parse_model.specs.OptionTables.{table_of};
 ghost use Rattle.protobuf_parse_model.specs.BuiltinOptions.{options_seen};
 ghost use Rattle.protobuf_parse_elaboration.specs.ConstructOptions.{construct_faults};
@@ -16,6 +16,7 @@ ghost use Rattle.protobuf_parse_elaboration.specs.Fields.{field_option_faults};
 ghost use Rattle.protobuf_parse_elaboration.specs.Fields.{field_options_faults};
 ghost use Rattle.protobuf_parse_elaboration.specs.OptionViews.{entry_seen, kind_seen, table_seen};
 ghost use Rattle.protobuf_parse_elaboration.specs.Viewpoints.{seen_from};
+ghost use Rattle.protobuf_parse_elaboration.specs.Telling.{Tells};
 
 use crate::constructs::options::builtin::table_of;
 use crate::constructs::options::strings::decoded_text;
@@ -38,8 +39,8 @@ pub fn custom_bytes<C: CustomOptions>(
     ensures value { let env = seen_from C.customs at.now in
         IfOk result (λ v. v.items ≡ customs_bytes env construct (options_seen options.now)) }
     ensures faults { let env = seen_from C.customs at.now in
-        OnOk result (found faults.new ≡ found faults.old
-        ++ construct_faults env construct (table_of construct) (options_seen options.now)) }
+        Tells result faults.old faults.new
+        (construct_faults env construct (table_of construct) (options_seen options.now)) }
 {
     tell_options(at.alloc, faults, table_of(construct), options)?;
     at.custom
@@ -55,8 +56,8 @@ pub fn custom_field_bytes<C: CustomOptions>(
     ensures value { let env = seen_from C.customs at.now in
         IfOk result (λ v. v.items ≡ customs_bytes env of.Field (options_seen options.now)) }
     ensures faults { let env = seen_from C.customs at.now in
-        let os = options_seen options.now in OnOk result (found faults.new ≡ found faults.old
-        ++ (field_options_faults os ++ customs_faults env of.Field os)) }
+        let os = options_seen options.now in Tells result faults.old faults.new
+        (field_options_faults os ++ customs_faults env of.Field os) }
 {
     tell_field_options(at.alloc, faults, options)?;
     at.custom.bytes(
@@ -75,8 +76,8 @@ fn tell_options(
     table: &[(&str, BuiltinKind)],
     options: &[&ProtobufOption],
 ) -> Result<(), AllocError>
-    ensures { OnOk result (found faults.new ≡ found faults.old
-        ++ spec.options_faults (table_seen table.now) (options_seen options.now)) }
+    ensures { Tells result faults.old faults.new
+        (spec.options_faults (table_seen table.now) (options_seen options.now)) }
 {
     for option in options {
         tell_option(alloc, faults, table, option)?;
@@ -90,8 +91,8 @@ fn tell_option(
     table: &[(&str, BuiltinKind)],
     option: &ProtobufOption,
 ) -> Result<(), AllocError>
-    ensures { OnOk result (found faults.new ≡ found faults.old
-        ++ spec.option_faults (table_seen table.now) (option_syntax option.now)) }
+    ensures { Tells result faults.old faults.new
+        (spec.option_faults (table_seen table.now) (option_syntax option.now)) }
 {
     match &option.name {
         ProtobufOptionName::Builtin(name) => {
@@ -107,8 +108,7 @@ fn tell_field_options(
     faults: &mut Vec<ElabError>,
     options: &[&ProtobufOption],
 ) -> Result<(), AllocError>
-    ensures { OnOk result (found faults.new ≡ found faults.old
-        ++ field_options_faults (options_seen options.now)) }
+    ensures { Tells result faults.old faults.new (field_options_faults (options_seen options.now)) }
 {
     for option in options {
         tell_field_option(alloc, faults, option)?;
@@ -121,9 +121,8 @@ fn tell_field_option(
     faults: &mut Vec<ElabError>,
     option: &ProtobufOption,
 ) -> Result<(), AllocError>
-    ensures { let o = option_syntax option.now in OnOk result
-        (found faults.new ≡ found faults.old
-        ++ placed o.place (field_option_faults o.value o.name)) }
+    ensures { let o = option_syntax option.now in Tells result faults.old faults.new
+        (placed o.place (field_option_faults o.value o.name)) }
 {
     let ProtobufOptionName::Builtin(name) = &option.name else {
         return Ok(());
@@ -150,8 +149,9 @@ fn tell_builtin(
     name: &str,
     value: &ProtobufConstant,
 ) -> Result<(), AllocError>
-    ensures { OnOk result (found faults.new ≡ found faults.old ++ placed place
-        (spec.builtin_faults (table_seen table.now) name.now (constant_syntax value.now))) }
+    ensures { Tells result faults.old faults.new
+        (placed place (spec.builtin_faults (table_seen table.now) name.now
+        (constant_syntax value.now))) }
 {
     if name == "uninterpreted_option" {
         let kind = ElabErrorKind::BuiltinOptionPointsToNonSingularField;
@@ -194,8 +194,9 @@ fn tell_value(
     kind: BuiltinKind,
     value: &ProtobufConstant,
 ) -> Result<(), AllocError>
-    ensures { OnOk result (found faults.new ≡ found faults.old ++ placed place
-        (spec.builtin_value_faults name.now (kind_seen kind) (constant_syntax value.now))) }
+    ensures { Tells result faults.old faults.new
+        (placed place (spec.builtin_value_faults name.now (kind_seen kind)
+        (constant_syntax value.now))) }
 {
     match kind {
         BuiltinKind::Text => tell_text(alloc, faults, place, name, value),
@@ -211,8 +212,9 @@ fn tell_text(
     name: &str,
     value: &ProtobufConstant,
 ) -> Result<(), AllocError>
-    ensures { OnOk result (found faults.new ≡ found faults.old ++ placed place
-        (spec.builtin_value_faults name.now spec.a_text (constant_syntax value.now))) }
+    ensures { Tells result faults.old faults.new
+        (placed place (spec.builtin_value_faults name.now spec.a_text
+        (constant_syntax value.now))) }
 {
     match value {
         ProtobufConstant::String(string) => match decoded_text(alloc, string)? {
@@ -236,8 +238,9 @@ fn tell_truth(
     name: &str,
     value: &ProtobufConstant,
 ) -> Result<(), AllocError>
-    ensures { OnOk result (found faults.new ≡ found faults.old ++ placed place
-        (spec.builtin_value_faults name.now spec.a_truth (constant_syntax value.now))) }
+    ensures { Tells result faults.old faults.new
+        (placed place (spec.builtin_value_faults name.now spec.a_truth
+        (constant_syntax value.now))) }
 {
     match value {
         ProtobufConstant::Bool(_) => Ok(()),
@@ -259,10 +262,9 @@ fn tell_word(
     words: &[&str],
     value: &ProtobufConstant,
 ) -> Result<(), AllocError>
-    ensures { OnOk result (found faults.new ≡ found faults.old ++ placed place
-        (spec.builtin_value_faults name.now
-        (spec.a_word (map (λ (w : Bor (List ℕ)). w.now) words.now))
-        (constant_syntax value.now))) }
+    ensures { Tells result faults.old faults.new
+        (placed place (spec.builtin_value_faults name.now
+        (spec.a_word (map (λ (w : Bor (List ℕ)). w.now) words.now)) (constant_syntax value.now))) }
 {
     match value {
         ProtobufConstant::Ident(word) if stands_in(word, words) => Ok(()),

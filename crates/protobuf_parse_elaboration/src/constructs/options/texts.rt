@@ -1,15 +1,16 @@
 //! The texts of a field's descriptor that its options set: the default and the JSON name.
 
-ghost use Rattle.std.specs.Prelude.{◌≡◌, ◌++◌, [], codes, option_map, string_bytes, IfOk, OnOk};
+ghost use Rattle.std.specs.Prelude.{◌≡◌, ◌++◌, [], codes, option_map, string_bytes, IfOk};
 ghost use Rattle.protobuf_parse_base.specs.DeclaredNames.{name_bytes};
 ghost use Rattle.protobuf_parse_syntax.specs.Trees.{constant_syntax};
 ghost use Rattle.protobuf_parse_syntax.specs.Formats.{format};
 ghost use Rattle.protobuf_parse_model.specs.Duplicates.{fault};
-ghost use Rattle.protobuf_parse_model.specs.Faults.{found, placed};
+ghost use Rattle.protobuf_parse_model.specs.Faults.{placed};
 ghost use Rattle.protobuf_parse_model.specs.declared.error.ElabErrorKind.TheVariants.{DefaultValueIsNotStringLiteral};
 ghost use Rattle.protobuf_parse_model.specs.declared.error.ElabErrorKind.TheVariants.{WrongOptionType};
 ghost use Rattle.protobuf_parse_model.specs.BuiltinOptions.{options_seen};
 ghost use Rattle.protobuf_parse_elaboration.specs.Fields as spec;
+ghost use Rattle.protobuf_parse_elaboration.specs.Telling.{Tells};
 
 use crate::constructs::options::said::first_named;
 use crate::constructs::options::strings::{bytes_given, text_given};
@@ -31,8 +32,8 @@ pub fn default_value(
 ) -> Result<Option<String>, AllocError>
     ensures value { IfOk result (λ o. option_map string_bytes o
         ≡ spec.default_of kind (options_seen options.now)) }
-    ensures faults { OnOk result (found faults.new ≡ found faults.old
-        ++ spec.default_faults kind name.now (options_seen options.now)) }
+    ensures faults { Tells result faults.old faults.new
+        (spec.default_faults kind name.now (options_seen options.now)) }
 {
     match first_named(options, "default") {
         Some(option) => {
@@ -54,8 +55,8 @@ fn default_text(
 ) -> Result<String, AllocError>
     ensures value { IfOk result
         (λ s. string_bytes s ≡ spec.default_text kind (constant_syntax value.now)) }
-    ensures faults { OnOk result (found faults.new ≡ found faults.old
-        ++ placed place (spec.default_value_faults kind name.now (constant_syntax value.now))) }
+    ensures faults { Tells result faults.old faults.new
+        (placed place (spec.default_value_faults kind name.now (constant_syntax value.now))) }
 {
     match kind {
         FieldType::String => string_default(alloc, faults, place, name, value),
@@ -73,8 +74,9 @@ fn string_default(
 ) -> Result<String, AllocError>
     ensures value { IfOk result
         (λ s. string_bytes s ≡ spec.default_text FieldType.String (constant_syntax value.now)) }
-    ensures faults { OnOk result (found faults.new ≡ found faults.old ++ placed place
-        (spec.default_value_faults FieldType.String name.now (constant_syntax value.now))) }
+    ensures faults { Tells result faults.old faults.new
+        (placed place (spec.default_value_faults FieldType.String name.now
+        (constant_syntax value.now))) }
 {
     match value {
         ProtobufConstant::String(string) => text_given(alloc, faults, place, "default", string),
@@ -91,8 +93,9 @@ fn bytes_default(
 ) -> Result<String, AllocError>
     ensures value { IfOk result
         (λ s. string_bytes s ≡ spec.default_text FieldType.Bytes (constant_syntax value.now)) }
-    ensures faults { OnOk result (found faults.new ≡ found faults.old ++ placed place
-        (spec.default_value_faults FieldType.Bytes name.now (constant_syntax value.now))) }
+    ensures faults { Tells result faults.old faults.new
+        (placed place (spec.default_value_faults FieldType.Bytes name.now
+        (constant_syntax value.now))) }
 {
     match value {
         ProtobufConstant::String(string) => {
@@ -112,8 +115,8 @@ fn no_string(
     value: &ProtobufConstant,
 ) -> Result<String, AllocError>
     ensures value { IfOk result (λ s. string_bytes s ≡ format (constant_syntax value.now)) }
-    ensures faults { OnOk result (found faults.new ≡ found faults.old
-        ++ placed place (fault DefaultValueIsNotStringLiteral name.now)) }
+    ensures faults { Tells result faults.old faults.new
+        (placed place (fault DefaultValueIsNotStringLiteral name.now)) }
 {
     let kind = ElabErrorKind::DefaultValueIsNotStringLiteral;
     tell(alloc, faults, place, kind, name)?;
@@ -130,8 +133,8 @@ pub fn json_name_of(
 ) -> Result<Name, AllocError>
     ensures value { IfOk result
         (λ n. name_bytes n ≡ spec.field_json_name name.now (options_seen options.now)) }
-    ensures faults { OnOk result (found faults.new ≡ found faults.old
-        ++ spec.json_name_faults (options_seen options.now)) }
+    ensures faults { Tells result faults.old faults.new
+        (spec.json_name_faults (options_seen options.now)) }
 {
     match first_named(options, "json_name") {
         Some(option) => json_name_said(alloc, faults, option.place, &option.value),
@@ -148,8 +151,8 @@ fn json_name_said(
 ) -> Result<Name, AllocError>
     ensures value { IfOk result
         (λ n. name_bytes n ≡ spec.json_value_said (constant_syntax value.now)) }
-    ensures faults { OnOk result (found faults.new ≡ found faults.old
-        ++ placed place (spec.json_value_faults (constant_syntax value.now))) }
+    ensures faults { Tells result faults.old faults.new
+        (placed place (spec.json_value_faults (constant_syntax value.now))) }
 {
     match value {
         ProtobufConstant::String(string) => {
@@ -163,8 +166,8 @@ fn json_name_said(
 /// No name, where a JSON name was to be a string: E10.
 fn no_name(alloc: Global, faults: &mut Vec<ElabError>, place: Place) -> Result<Name, AllocError>
     ensures value { IfOk result (λ n. name_bytes n ≡ []) }
-    ensures faults { OnOk result (found faults.new ≡ found faults.old
-        ++ placed place (fault WrongOptionType (codes "json_name"))) }
+    ensures faults { Tells result faults.old faults.new
+        (placed place (fault WrongOptionType (codes "json_name"))) }
 {
     let kind = ElabErrorKind::WrongOptionType;
     tell(alloc, faults, place, kind, "json_name")?;
