@@ -7,8 +7,8 @@ use Rattle.protobuf_parse_base.specs.PathViews.{path_buf_text}
 use Rattle.protobuf_parse_model.specs.Descriptors.{Text}
 use Rattle.protobuf_parse_model.specs.declared.descriptor.FileDescriptorProto.{FileDescriptorProto}
 use Rattle.protobuf_parse_model.specs.declared.descriptor.FileDescriptorSet.{FileDescriptorSet}
-use Rattle.protobuf_parse.specs.declared.front.builder.Parser.{Parser}
-use Rattle.protobuf_parse.specs.declared.front.builder.ParsedAndTypechecked.{ParsedAndTypechecked}
+use Rattle.protobuf_parse.specs.declared.parser.builder.Parser.{Parser}
+use Rattle.protobuf_parse.specs.declared.parser.builder.ParsedAndTypechecked.{ParsedAndTypechecked}
 use Rattle.protobuf_parse_run.specs.declared.fault.RunFault.{RunFault}
 use Rattle.protobuf_parse_run.specs.Walks.{Input, at}
 use Rattle.protobuf_parse_run.specs.Run.{MayRead}

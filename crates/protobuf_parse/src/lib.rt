@@ -1,15 +1,15 @@
 //! Parses `.proto` files and checks their types.
 #![tactic(auto)]
 
-mod front;
 mod laws;
+mod parser;
 pub mod pure;
 pub mod trees;
 
-pub use front::{
+pub use laws::numbers_are_apart_in_runs;
+pub use parser::{
     FsReader, FsResolver, ParsedAndTypechecked, Parser, fs_resolver, program, proto_path_of,
 };
-pub use laws::numbers_are_apart_in_runs;
 pub use protobuf_parse_base::Name;
 pub use protobuf_parse_base::names::laws::{
     into_absolute_undoes_to_root_rel, pop_undoes_push, remove_undoes_concat,

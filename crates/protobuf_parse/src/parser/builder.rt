@@ -1,0 +1,383 @@
+//! A parser over real files: includes and inputs are added, and then it runs.
+
+ghost use Rattle.std.specs.Prelude.{◌≡◌, IfOk, IfErr, OnOk, OnErr, List, [], ◌∷◌, ◌++◌, length};
+ghost use Rattle.std.specs.Prelude.{filter, map, option_map, string_bytes};
+ghost use Rattle.protobuf_parse_base.specs.PathViews.{path_buf_text};
+ghost use Rattle.protobuf_parse_run.specs.Run.{IsCaused, input_view};
+ghost use Rattle.protobuf_parse.specs.Includes.{part_views};
+ghost use Rattle.protobuf_parse.specs.Folders.{MayFind};
+ghost use Rattle.protobuf_parse.specs.NameSets.{HasNames};
+ghost use Rattle.protobuf_parse.specs.Checking.{AreReported, CheckedOverFolders, TellsCheckFault};
+ghost use Rattle.protobuf_parse_model.specs.Descriptors.{Text};
+ghost use Rattle.protobuf_parse.specs.Parsers.{IsParsed, IsSameParser, IsSetOfInputs};
+ghost use Rattle.protobuf_parse.specs.Parsers.{MayReadAnything, RanOverFolders, TellsFault};
+ghost use Rattle.protobuf_parse.specs.Parsers.{includes_of, inputs_at, inputs_of, is_name_among};
+ghost use Rattle.protobuf_parse.specs.Parsers.{is_of_input};
+
+use crate::parser::files::{FsReader, copy_texts, fs_resolver};
+use crate::parser::includes::proto_paths_of;
+use protobuf_parse_base::proto_path::ProtoPathBuf;
+use protobuf_parse_model::{FileDescriptorProto, FileDescriptorSet};
+use protobuf_parse_run::{FileReport, RunFault, RunInput, bundled_files, check_inputs, run_inputs};
+use std::alloc::{AllocError, Global};
+use std::collections::BTreeSet;
+use std::rt::Files;
+
+/// Parses files and checks their types. Includes are the folders where imports are looked for, and
+/// inputs the files that are parsed, each of which resides in an include.
+///
+/// ```
+/// let mut parser = Parser::new(rt.alloc());
+/// parser.push_includes(&["schemas", "vendor"])?;
+/// parser.push_input("schemas/shop/order.proto")?;
+/// let parsed = parser.parse_and_typecheck(&rt)?;
+/// for file in &parsed.file_descriptors {
+///     print!(rt; "{}\n", file.name.as_deref().unwrap_or(""))?;
+/// }
+/// ```
+#[derive(Debug, PartialEq, Drop)]
+pub struct Parser {
+    includes: Vec<String>,
+    inputs: Vec<String>,
+}
+
+/// What a run of a [`Parser`] gave.
+#[derive(Debug, Drop)]
+pub struct ParsedAndTypechecked {
+    /// The proto path of each input, in order.
+    pub relative_paths: Vec<ProtoPathBuf>,
+    /// The descriptors of all files that the inputs reach, each once and after its imports.
+    pub file_descriptors: Vec<FileDescriptorProto>,
+    /// Which parser was used: `pure`.
+    pub parser: String,
+}
+
+impl Parser {
+    /// A parser without includes and inputs.
+    pub fn new(alloc: Global) -> Self
+        ensures includes { includes_of result ≡ [] }
+        ensures inputs { inputs_of result ≡ [] }
+    {
+        Parser {
+            includes: Vec::new(alloc),
+            inputs: Vec::new(alloc),
+        }
+    }
+
+    /// Chooses this library's own parser, which is the only one. It changes nothing.
+    pub fn pure(&mut self) -> &mut Self
+        ensures same { result.now ≡ self.old }
+        ensures same_reference { result.ghost_name ≡ self.entry.ghost_name }
+    {
+        self
+    }
+
+    /// Adds an include. Where memory is short, which is the one error, nothing changes.
+    ///
+    /// ```
+    /// parser.push_include("schemas")?;
+    /// ```
+    pub fn push_include(&mut self, include: &str) -> Result<(), AllocError>
+        ensures includes { OnOk result
+            (includes_of self.new ≡ includes_of self.old ++ include.now ∷ []) }
+        ensures inputs { inputs_of self.new ≡ inputs_of self.old }
+        ensures kept { OnErr result (IsSameParser self.old self.new) }
+    {
+        push_text(&mut self.includes, include)
+    }
+
+    /// [`Parser::push_include`], and answers the parser.
+    pub fn include(&mut self, include: &str) -> Result<&mut Self, AllocError>
+        ensures includes { IfOk result (λ p.
+            includes_of p.now ≡ includes_of self.old ++ include.now ∷ []) }
+        ensures inputs { IfOk result (λ p. inputs_of p.now ≡ inputs_of self.old) }
+        ensures same_reference { IfOk result (λ p. p.ghost_name ≡ self.entry.ghost_name) }
+    {
+        self.push_include(include)?;
+        Ok(self)
+    }
+
+    /// Adds includes, in order, all or none. Where memory is short, which is the one error, nothing
+    /// changes.
+    pub fn push_includes(&mut self, includes: &[&str]) -> Result<(), AllocError>
+        ensures includes { OnOk result
+            (includes_of self.new ≡ includes_of self.old ++ part_views includes.now) }
+        ensures inputs { inputs_of self.new ≡ inputs_of self.old }
+        ensures kept { OnErr result (IsSameParser self.old self.new) }
+    {
+        push_texts(&mut self.includes, includes)
+    }
+
+    /// [`Parser::push_includes`], and answers the parser.
+    pub fn includes(&mut self, includes: &[&str]) -> Result<&mut Self, AllocError>
+        ensures includes { IfOk result (λ p.
+            includes_of p.now ≡ includes_of self.old ++ part_views includes.now) }
+        ensures inputs { IfOk result (λ p. inputs_of p.now ≡ inputs_of self.old) }
+        ensures same_reference { IfOk result (λ p. p.ghost_name ≡ self.entry.ghost_name) }
+    {
+        self.push_includes(includes)?;
+        Ok(self)
+    }
+
+    /// Adds an input. Where memory is short, which is the one error, nothing changes.
+    ///
+    /// ```
+    /// parser.push_input("schemas/shop/order.proto")?;
+    /// ```
+    pub fn push_input(&mut self, input: &str) -> Result<(), AllocError>
+        ensures inputs { OnOk result
+            (inputs_of self.new ≡ inputs_of self.old ++ input.now ∷ []) }
+        ensures includes { includes_of self.new ≡ includes_of self.old }
+        ensures kept { OnErr result (IsSameParser self.old self.new) }
+    {
+        push_text(&mut self.inputs, input)
+    }
+
+    /// [`Parser::push_input`], and answers the parser.
+    pub fn input(&mut self, input: &str) -> Result<&mut Self, AllocError>
+        ensures inputs { IfOk result (λ p.
+            inputs_of p.now ≡ inputs_of self.old ++ input.now ∷ []) }
+        ensures includes { IfOk result (λ p. includes_of p.now ≡ includes_of self.old) }
+        ensures same_reference { IfOk result (λ p. p.ghost_name ≡ self.entry.ghost_name) }
+    {
+        self.push_input(input)?;
+        Ok(self)
+    }
+
+    /// Adds inputs, in order, all or none. Where memory is short, which is the one error, nothing
+    /// changes.
+    pub fn push_inputs(&mut self, inputs: &[&str]) -> Result<(), AllocError>
+        ensures inputs { OnOk result
+            (inputs_of self.new ≡ inputs_of self.old ++ part_views inputs.now) }
+        ensures includes { includes_of self.new ≡ includes_of self.old }
+        ensures kept { OnErr result (IsSameParser self.old self.new) }
+    {
+        push_texts(&mut self.inputs, inputs)
+    }
+
+    /// [`Parser::push_inputs`], and answers the parser.
+    pub fn inputs(&mut self, inputs: &[&str]) -> Result<&mut Self, AllocError>
+        ensures inputs { IfOk result (λ p.
+            inputs_of p.now ≡ inputs_of self.old ++ part_views inputs.now) }
+        ensures includes { IfOk result (λ p. includes_of p.now ≡ includes_of self.old) }
+        ensures same_reference { IfOk result (λ p. p.ghost_name ≡ self.entry.ghost_name) }
+    {
+        self.push_inputs(inputs)?;
+        Ok(self)
+    }
+
+    /// Parses the inputs and all files that they import, and checks their types.
+    ///
+    /// All inputs get their proto paths before any file is read: the error is L3 or L11 of the
+    /// first one that gets none. Then each input is read at its own path, and its imports are
+    /// looked for in the includes and among the files that this library brings: the errors are
+    /// those of the run.
+    ///
+    /// ```
+    /// let parsed = parser.parse_and_typecheck(&rt)?;
+    /// let files = &parsed.file_descriptors; // each after what it imports
+    /// ```
+    pub fn parse_and_typecheck<R: Files + AllocGlobal>(
+        &self,
+        rt: &R,
+    ) -> Result<ParsedAndTypechecked, RunFault>
+        ensures parsed { IfOk result (IsParsed (includes_of self.now) (inputs_of self.now)) }
+        ensures fault { IfErr result (TellsFault (includes_of self.now) (inputs_of self.now)) }
+        ensures caused { IfErr result (λ f.
+            IsCaused (MayFind (includes_of self.now)) MayReadAnything f) }
+    {
+        let alloc = rt.alloc();
+        let names = proto_paths_of(alloc, &self.includes, &self.inputs)?;
+        let files = run_over_folders(rt, alloc, &self.includes, &self.inputs, &names)?;
+        Ok(ParsedAndTypechecked {
+            relative_paths: names,
+            file_descriptors: files,
+            parser: String::from_str(alloc, "pure")?,
+        })
+    }
+
+    /// The descriptors of the inputs alone, in the order of [`Parser::parse_and_typecheck`], and
+    /// its errors.
+    ///
+    /// ```
+    /// for file in &parser.file_descriptor_set(&rt)?.file {
+    ///     print!(rt; "{} messages\n", file.message_type.len())?;
+    /// }
+    /// ```
+    pub fn file_descriptor_set<R: Files + AllocGlobal>(
+        &self,
+        rt: &R,
+    ) -> Result<FileDescriptorSet, RunFault>
+        ensures set { IfOk result (IsSetOfInputs (includes_of self.now) (inputs_of self.now)) }
+        ensures fault { IfErr result (TellsFault (includes_of self.now) (inputs_of self.now)) }
+        ensures caused { IfErr result (λ f.
+            IsCaused (MayFind (includes_of self.now)) MayReadAnything f) }
+    {
+        let ParsedAndTypechecked {
+            relative_paths,
+            file_descriptors,
+            parser: _,
+        } = self.parse_and_typecheck(rt)?;
+        let file = files_of_inputs(rt.alloc(), &relative_paths, file_descriptors)?;
+        Ok(FileDescriptorSet { file })
+    }
+
+    /// All that is wrong in the inputs and in the files that they import: a report of each file, in
+    /// the order of [`Parser::parse_and_typecheck`].
+    ///
+    /// A report has E1 to E4 and E7 to E13 of its file; where it has none of these, and no file
+    /// that it reaches has any, those of its custom options, E9 and E14 to E28. Any other fault of
+    /// [`Parser::parse_and_typecheck`] is the error, also E5 and E6, as L10: what other files say
+    /// isn't told then.
+    ///
+    /// ```
+    /// for report in &parser.check(&rt)? {
+    ///     for fault in &report.faults {
+    ///         let line = fault.place.line;
+    ///         print!(rt; "{}:{line}: {fault}\n", report.path)?;
+    ///     }
+    /// }
+    /// ```
+    pub fn check<R: Files + AllocGlobal>(&self, rt: &R) -> Result<Vec<FileReport>, RunFault>
+        ensures reports { IfOk result (AreReported (includes_of self.now) (inputs_of self.now)) }
+        ensures fault { IfErr result (TellsCheckFault (includes_of self.now) (inputs_of self.now)) }
+    {
+        let alloc = rt.alloc();
+        let names = proto_paths_of(alloc, &self.includes, &self.inputs)?;
+        check_over_folders(rt, alloc, &self.includes, &self.inputs, &names)
+    }
+}
+
+/// Adds a copy of the text, or leaves the texts as they were.
+fn push_text(texts: &mut Vec<String>, text: &str) -> Result<(), AllocError>
+    ensures added { OnOk result (map string_bytes texts.new.items
+        ≡ map string_bytes texts.old.items ++ text.now ∷ []) }
+    ensures kept { OnErr result (texts.new.items ≡ texts.old.items) }
+{
+    let copy = String::from_str(*texts.allocator(), text)?;
+    texts.push(copy)?;
+    Ok(())
+}
+
+/// Adds copies of the texts, or leaves them as they were.
+fn push_texts(texts: &mut Vec<String>, others: &[&str]) -> Result<(), AllocError>
+    ensures added { OnOk result (map string_bytes texts.new.items
+        ≡ map string_bytes texts.old.items ++ part_views others.now) }
+    ensures kept { OnErr result (texts.new.items ≡ texts.old.items) }
+{
+    let mut copies = copy_texts(*texts.allocator(), others)?;
+    texts.append(&mut copies)?;
+    Ok(())
+}
+
+/// The result of the run over these inputs by their proto paths, with imports from these includes.
+fn run_over_folders<R: Files + AllocGlobal>(
+    rt: &R,
+    alloc: Global,
+    includes: &[String],
+    inputs: &[String],
+    names: &[ProtoPathBuf],
+) -> Result<Vec<FileDescriptorProto>, RunFault>
+    requires { length names.now ≡ length inputs.now }
+    ensures ran { RanOverFolders (map string_bytes includes.now) (map string_bytes inputs.now)
+        (map path_buf_text names.now) result }
+    ensures caused { IfErr result (λ f.
+        IsCaused (MayFind (map string_bytes includes.now)) MayReadAnything f) }
+{
+    let folders = text_slices(alloc, includes)?;
+    let resolver = fs_resolver(rt, alloc, &folders)?;
+    let reader = FsReader::new(rt);
+    let given = place_inputs(alloc, inputs, names)?;
+    run_inputs(alloc, &given, &resolver, &reader, bundled_files()).result
+}
+
+/// The result of the check of these inputs by their proto paths, with imports from these includes.
+fn check_over_folders<R: Files + AllocGlobal>(
+    rt: &R,
+    alloc: Global,
+    includes: &[String],
+    inputs: &[String],
+    names: &[ProtoPathBuf],
+) -> Result<Vec<FileReport>, RunFault>
+    requires { length names.now ≡ length inputs.now }
+    ensures checked { CheckedOverFolders (map string_bytes includes.now)
+        (map string_bytes inputs.now) (map path_buf_text names.now) result }
+{
+    let folders = text_slices(alloc, includes)?;
+    let resolver = fs_resolver(rt, alloc, &folders)?;
+    let reader = FsReader::new(rt);
+    let given = place_inputs(alloc, inputs, names)?;
+    check_inputs(alloc, &given, &resolver, &reader, bundled_files()).result
+}
+
+/// The texts, lent.
+fn text_slices<'a>(alloc: Global, texts: &'a [String]) -> Result<Vec<&'a str>, AllocError>
+    ensures { IfOk result (λ v. part_views v.items ≡ map string_bytes texts.now) }
+{
+    let mut slices = Vec::with_capacity(alloc, texts.len())?;
+    for text in texts {
+        slices.push(text.as_str())?;
+    }
+    Ok(slices)
+}
+
+/// Each input at its own path, by its proto path.
+fn place_inputs(
+    alloc: Global,
+    inputs: &[String],
+    names: &[ProtoPathBuf],
+) -> Result<Vec<RunInput>, AllocError>
+    requires { length names.now ≡ length inputs.now }
+    ensures { IfOk result (λ v. map input_view v.items
+        ≡ inputs_at (map path_buf_text names.now) (map string_bytes inputs.now)) }
+{
+    let mut given = Vec::new(alloc);
+    for i in 0..inputs.len() {
+        let name = names[i].as_path().to_proto_path_buf(alloc)?;
+        let fs_path = String::from_str(alloc, &inputs[i])?;
+        given.push(RunInput::At { name, fs_path })?;
+    }
+    Ok(given)
+}
+
+/// Those of the files whose name is one of these, in order.
+#[tactic(auto, using(crate::proofs::Building::kept_one, crate::proofs::Building::left_one))]
+fn files_of_inputs(
+    alloc: Global,
+    names: &[ProtoPathBuf],
+    files: Vec<FileDescriptorProto>,
+) -> Result<Vec<FileDescriptorProto>, AllocError>
+    ensures { IfOk result (λ v.
+        v.items ≡ filter (is_of_input (map path_buf_text names.now)) files.items) }
+{
+    let inputs = set_of_names(alloc, names)?;
+    let mut kept = Vec::new(alloc);
+    for file in files {
+        if is_input(&inputs, &file.name) {
+            kept.push(file)?;
+        }
+    }
+    Ok(kept)
+}
+
+/// The names as a set.
+fn set_of_names(alloc: Global, names: &[ProtoPathBuf]) -> Result<BTreeSet<String>, AllocError>
+    ensures { IfOk result (λ s. HasNames s (map path_buf_text names.now)) }
+{
+    let mut set = BTreeSet::new(alloc);
+    for name in names {
+        set.insert(String::from_str(alloc, name.as_path().to_str())?)?;
+    }
+    Ok(set)
+}
+
+/// Whether the name is one of the set.
+fn is_input(inputs: &BTreeSet<String>, name: &Option<String>) -> bool
+    ensures { (names : List Text) → HasNames inputs.now names →
+        result ≡ is_name_among names (option_map string_bytes name.now) }
+{
+    match name {
+        Some(name) => inputs.contains(name.as_str()),
+        None => false,
+    }
+}

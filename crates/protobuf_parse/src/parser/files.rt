@@ -1,0 +1,153 @@
+//! Real files: a resolver over a list of includes, and a reader of inputs.
+
+ghost use Rattle.std.specs.Prelude.{◌≡◌, IfOk, map, string_bytes, Some};
+ghost use Rattle.protobuf_parse_base.specs.PathViews.{path_text};
+ghost use Rattle.protobuf_parse.specs.Includes.{includes_text, part_views};
+ghost use Rattle.protobuf_parse.specs.Folders.{IsTriedAt, MayFind, path_tried};
+
+use crate::parser::includes::list_includes;
+use protobuf_parse_base::proto_path::ProtoPath;
+use protobuf_parse_run::{
+    InputReader, ProtoPathResolver, ReadInputFault, ResolveFault, ResolvedProtoFile,
+};
+use std::alloc::{AllocError, Global};
+use std::io::ErrorKind;
+use std::rt::Files;
+use std::{fmt, fs};
+
+/// Finds files in real folders: it looks in each include in turn. Its text lists the includes as
+/// they were given: `["a", "b"]`.
+#[derive(Drop)]
+pub struct FsResolver<'r, R> {
+    rt: &'r R,
+    includes: Vec<String>,
+    text: String,
+}
+
+/// A resolver that looks for each proto path in these includes, in order. The one error is that
+/// memory is short.
+///
+/// ```
+/// let resolver = fs_resolver(&rt, alloc, &["schemas", "vendor"])?;
+/// ```
+pub fn fs_resolver<'r, R: Files + AllocGlobal>(
+    rt: &'r R,
+    alloc: Global,
+    includes: &[&str],
+) -> Result<FsResolver<'r, R>, AllocError>
+    ensures includes { IfOk result (λ r.
+        map string_bytes r.includes.items ≡ part_views includes.now) }
+    ensures shown { IfOk result (λ r.
+        string_bytes r.text ≡ includes_text (part_views includes.now)) }
+{
+    let copies = copy_texts(alloc, includes)?;
+    let text = list_includes(alloc, &copies)?;
+    Ok(FsResolver {
+        rt,
+        includes: copies,
+        text,
+    })
+}
+
+/// The texts, each copied.
+pub fn copy_texts(alloc: Global, texts: &[&str]) -> Result<Vec<String>, AllocError>
+    ensures { IfOk result (λ v. map string_bytes v.items ≡ part_views texts.now) }
+{
+    let mut copies = Vec::new(alloc);
+    for text in texts {
+        copies.push(String::from_str(alloc, text)?)?;
+    }
+    Ok(copies)
+}
+
+impl<'r, R> fmt::Display for FsResolver<'r, R> {
+    ghost output = { λ r. Some (string_bytes r.text) };
+
+    fn fmt<W: fmt::Write>(&self, f: &mut fmt::Formatter<W>) -> fmt::Result {
+        f.write_str(self.text.as_str())
+    }
+}
+
+impl<'r, R: Files + AllocGlobal> ProtoPathResolver for FsResolver<'r, R> {
+    ghost may_answer = { λ r path answer. MayFind (map string_bytes r.includes.items) path answer };
+
+    fn resolve(
+        &self,
+        alloc: Global,
+        path: ProtoPath<'_>,
+    ) -> Result<Option<ResolvedProtoFile>, ResolveFault> {
+        for include in &self.includes {
+            match look_in(self.rt, alloc, include, path) {
+                Ok(None) => {}
+                found => return found,
+            }
+        }
+        Ok(None)
+    }
+}
+
+/// The file of this path in one include. None where there is no such file.
+fn look_in<R: Files + AllocGlobal>(
+    rt: &R,
+    alloc: Global,
+    include: &str,
+    path: ProtoPath<'_>,
+) -> Result<Option<ResolvedProtoFile>, ResolveFault>
+    ensures { IsTriedAt (path_tried include.now (path_text path.entry)) result }
+{
+    let Ok(file) = join_include(alloc, include, path) else {
+        return Err(ResolveFault::Memory);
+    };
+    match fs::read(rt, file.as_str()) {
+        Ok(content) => Ok(Some(ResolvedProtoFile {
+            path: file,
+            content,
+        })),
+        Err(error) => match error.kind() {
+            ErrorKind::NotFound => Ok(None),
+            ErrorKind::OutOfMemory => Err(ResolveFault::Memory),
+            _ => Err(ResolveFault::CouldNotRead(file)),
+        },
+    }
+}
+
+/// Where the path is looked for in an include: the include, a slash, and the path. An empty include
+/// adds nothing, and a slash at its end isn't doubled.
+fn join_include(alloc: Global, include: &str, path: ProtoPath<'_>) -> Result<String, AllocError>
+    ensures { IfOk result (λ s. string_bytes s ≡ path_tried include.now (path_text path.entry)) }
+{
+    let mut file = String::from_str(alloc, include)?;
+    if !include.is_empty() && !include.as_bytes().ends_with(b"/") {
+        file.push_str("/")?;
+    }
+    file.push_str(path.to_str())?;
+    Ok(file)
+}
+
+/// Reads inputs from the file system, at their paths as they were given.
+#[derive(Drop)]
+pub struct FsReader<'r, R> {
+    rt: &'r R,
+}
+
+impl<'r, R: Files + AllocGlobal> FsReader<'r, R> {
+    /// A reader over this runtime.
+    pub fn new(rt: &'r R) -> Self {
+        FsReader { rt }
+    }
+}
+
+impl<'r, R: Files + AllocGlobal> InputReader for FsReader<'r, R> {
+    ghost may_read = { λ _ _ _. Unit {0} };
+
+    fn read(&self, _alloc: Global, path: &str) -> Result<Vec<u8>, ReadInputFault> {
+        match fs::read(self.rt, path) {
+            Ok(content) => Ok(content),
+            Err(error) => Err(match error.kind() {
+                ErrorKind::NotFound => ReadInputFault::NotFound,
+                ErrorKind::OutOfMemory => ReadInputFault::Memory,
+                _ => ReadInputFault::Failed,
+            }),
+        }
+    }
+}
