@@ -1,9 +1,9 @@
 //! What a file sees of what files declare.
 
 ghost use Rattle.std.specs.Prelude.{◌≡◌, ℕ, true, List};
-ghost use Rattle.std.specs.BTreeMap.{get_by_text};
 ghost use Rattle.std.specs.List.Sorted.{IsStrictlyIncreasing};
-ghost use Rattle.protobuf_parse_model.specs.FileOrder.{FilesAscend, listed};
+ghost use Rattle.protobuf_parse_model.specs.ByHash.{declared_by_hash};
+ghost use Rattle.protobuf_parse_model.specs.FileOrder.{FilesAscend};
 
 use std::collections::BTreeMap;
 
@@ -33,11 +33,28 @@ pub struct Declaration {
     pub kind: DeclarationKind,
 }
 
+/// A full name, which has its first dot, and its one declaration.
+#[derive(Drop)]
+pub struct DeclaredOnce {
+    pub name: String,
+    pub declaration: Declaration,
+}
+
+/// What the full names of one hash are declared as.
+#[derive(Drop)]
+pub enum OneHash {
+    /// One name, which is declared once: nearly all are.
+    Once(DeclaredOnce),
+    /// The declarations of each name, as they were added.
+    Names(BTreeMap<String, Vec<Declaration>>),
+}
+
 /// What files declare: messages, also those behind maps and groups, enums and extensions.
 #[derive(Drop)]
 pub struct Declarations {
-    /// The declarations of each full name, which has its first dot, as they were added.
-    pub by_name: BTreeMap<String, Vec<Declaration>>,
+    /// What is declared, by the hashes of full names: numbers are compared faster than texts. Where
+    /// hashes agree the texts decide, so that no choice of names makes the table slow.
+    pub by_hash: BTreeMap<u64, OneHash>,
     /// By the number of a file, those of the full names that it declares which have more than one
     /// declaration.
     pub repeated: BTreeMap<u32, Vec<String>>,
@@ -45,7 +62,7 @@ pub struct Declarations {
     /// no file was added behind one with a higher number.
     pub in_order: bool,
     pub ghost ordered: { in_order ≡ true →
-        (name : List ℕ) → FilesAscend (listed (get_by_text by_name name)) },
+        (name : List ℕ) → FilesAscend (declared_by_hash by_hash name) },
 }
 
 /// What a file sees and what it reaches, of all the declarations that were made.
