@@ -12,7 +12,6 @@ use Rattle.std.proofs.lemmas.Bool.{false≢true}
 use Rattle.std.proofs.lemmas.Bool.Decides.{Decides-eqb}
 use Rattle.std.proofs.lemmas.Slice.Eq.{bytes_eq-Decides}
 use Rattle.protobuf_parse_model.specs.declared.scope.seen.Declaration.{Declaration}
-use Rattle.protobuf_parse_model.specs.declared.scope.seen.DeclaredOnce.{DeclaredOnce}
 use Rattle.protobuf_parse_model.specs.declared.scope.seen.OneHash.{OneHash}
 use Rattle.protobuf_parse_model.specs.declared.scope.seen.OneHash.TheVariants.{Once, Names}
 use Rattle.protobuf_parse_model.specs.ByHash.{AddsByHash, declared_by_hash, declared_of, hash_of}

@@ -1,13 +1,11 @@
 //! What the names of types mean.
 
 ghost use Rattle.std.specs.Prelude.{◌≡◌, ◌+◌, ◌<◌, ◌∷◌, ◌++◌, ℕ, List, flat_map, length, nat_eq};
-ghost use Rattle.std.specs.Prelude.{true, option_map, string_bytes, IfOk, OnOk, Some};
+ghost use Rattle.std.specs.Prelude.{true, option_map, string_bytes, IfOk, OnOk};
 ghost use Rattle.std.specs.List.{list_any};
 ghost use Rattle.protobuf_parse_base.specs.Characters as char;
 ghost use Rattle.protobuf_parse_base.specs.Names.{fronts};
 ghost use Rattle.protobuf_parse_syntax.specs.Trees.{FileSyntax};
-ghost use Rattle.protobuf_parse_model.specs.declared.scope.seen.OneHash.TheVariants.{Once};
-ghost use Rattle.protobuf_parse_model.specs.ByHash.{declared_of};
 ghost use Rattle.protobuf_parse_model.specs.Declarations as names;
 ghost use Rattle.protobuf_parse_model.specs.Declarations.{file_types};
 ghost use Rattle.protobuf_parse_model.specs.Environment.{type_named};
@@ -20,22 +18,20 @@ ghost use Rattle.protobuf_parse_model.specs.SeenFiles.{meaning_view};
 ghost use Rattle.protobuf_parse_model.specs.SeenFiles.{declared_type, seen_types};
 ghost use Rattle.protobuf_parse_model.specs.SeenFiles.{name_texts, type_kind};
 
+mod by_hash;
 mod declare;
 mod extensions;
 mod generated;
-mod names;
 mod ordered;
 mod seen;
 
 use crate::descriptor::FieldType;
+use by_hash::{declared_of, hash_of};
 pub use declare::{file_scope, scope_of_package};
-use names::hash_of;
 pub use ordered::in_file;
 use protobuf_parse_syntax::Syntax;
-use seen::{DeclaredOnce, OneHash};
 pub use seen::{Declaration, DeclarationKind, Declarations, Seen, TypeKind};
 use std::alloc::{AllocError, Global};
-use std::slice;
 
 /// From where a construct is seen.
 #[derive(Clone, Copy)]
@@ -193,30 +189,6 @@ pub fn declarations_of<'a>(table: &'a Declarations, name: &str) -> &'a [Declarat
     match table.by_hash.get(&hash_of(name)) {
         Some(declared) => declared_of(declared, name),
         None => &[],
-    }
-}
-
-/// The declarations of the full name, among the names of its hash.
-fn declared_of<'a>(declared: &'a OneHash, name: &str) -> &'a [Declaration]
-    ensures { result.now ≡ declared_of (Some declared.now) name.now }
-{
-    match declared {
-        OneHash::Once(once) => declared_once(once, name),
-        OneHash::Names(names) => match names.get(name) {
-            Some(declarations) => declarations,
-            None => &[],
-        },
-    }
-}
-
-/// The declaration of the full name, if that is the one name.
-fn declared_once<'a>(once: &'a DeclaredOnce, name: &str) -> &'a [Declaration]
-    ensures { result.now ≡ declared_of (Some (Once once.now)) name.now }
-{
-    if once.name.as_str() == name {
-        slice::from_ref(&once.declaration)
-    } else {
-        &[]
     }
 }
 

@@ -4,7 +4,6 @@ ghost use Rattle.std.specs.Prelude.{◌≡◌, ℕ, true, List, [], ◌∷◌, �
 ghost use Rattle.std.specs.Prelude.{nat_eq};
 ghost use Rattle.std.specs.Prelude.{bytes_eq, if◌then◌else◌, string_bytes, Contains, IfOk, OnOk};
 ghost use Rattle.std.specs.Prelude.{None, IsSome, IfSome};
-ghost use Rattle.std.specs.BTreeMap.{get_by_text};
 ghost use Rattle.protobuf_parse_base.specs.Names.{relative_idents};
 ghost use Rattle.protobuf_parse_lexer.specs.Text.{seen_by};
 ghost use Rattle.protobuf_parse_syntax.specs.Trees.{FileSyntax, file_syntax};
@@ -13,22 +12,20 @@ ghost use Rattle.protobuf_parse_syntax.specs.Trees.{message_syntax, nested_messa
 ghost use Rattle.protobuf_parse_syntax.specs.Trees.{statement_syntax};
 ghost use Rattle.protobuf_parse_model.specs.Declarations as names;
 ghost use Rattle.protobuf_parse_model.specs.Descriptors.{Text};
-ghost use Rattle.protobuf_parse_model.specs.ByHash.{AddsByHash, declared_by_hash, declared_of};
 ghost use Rattle.protobuf_parse_model.specs.ByHash.{hash_of};
-ghost use Rattle.protobuf_parse_model.specs.FileOrder.{FilesAscend, listed};
+ghost use Rattle.protobuf_parse_model.specs.FileOrder.{FilesAscend};
 ghost use Rattle.protobuf_parse_model.specs.SeenFiles.{declared_as, kind_view, name_texts};
 ghost use Rattle.protobuf_parse_model.specs.Tables.{Adds, AddsOne, KeepsListed, ListsOne, SaysSame};
 ghost use Rattle.protobuf_parse_model.specs.Tables.{TableTells, names_listed, type_entry};
 
+use super::by_hash::{add_alike, hash_of, insert_first};
 use super::extensions::add_extensions;
 use super::generated::add_generated;
-use super::names::hash_of;
-use super::seen::{Declaration, DeclarationKind, Declarations, DeclaredOnce, OneHash, TypeKind};
+use super::seen::{Declaration, DeclarationKind, Declarations, TypeKind};
 use super::{declarations_of, full_name};
 use protobuf_parse_syntax::{FileStatement, FileTree, Message, MessageStatement};
 use std::alloc::{AllocError, Global};
 use std::collections::BTreeMap;
-use std::collections::btree_map::Entry;
 
 impl Declarations {
     /// No names.
@@ -251,32 +248,6 @@ fn put_first(
     Ok(taken)
 }
 
-/// Inserts the declaration, if it is the first of a name of that hash, by one search; or gives the
-/// name back.
-fn insert_first(
-    by_hash: &mut BTreeMap<u64, OneHash>,
-    hash: u64,
-    name: String,
-    declaration: Declaration,
-) -> Result<Option<String>, AllocError>
-    requires { hash ≡ hash_of (string_bytes name) }
-    ensures first { IfOk result (λ taken. taken ≡ None →
-        declared_by_hash by_hash.old (string_bytes name) ≡ []) }
-    ensures adds { IfOk result (λ taken. taken ≡ None →
-        AddsByHash by_hash.old by_hash.new (string_bytes name) declaration) }
-    ensures same { IfOk result (λ taken. IsSome taken → (text : Text) →
-        declared_by_hash by_hash.new text ≡ declared_by_hash by_hash.old text) }
-    ensures back { IfOk result (λ taken. IfSome taken (λ n. n ≡ name)) }
-{
-    match by_hash.entry(hash)? {
-        Entry::Vacant(place) => {
-            place.insert(OneHash::Once(DeclaredOnce { name, declaration }));
-            Ok(None)
-        }
-        Entry::Occupied(_) => Ok(Some(name)),
-    }
-}
-
 /// Adds a declaration of that full name, where names of its hash are declared, and lists it where
 /// it has one already.
 fn put_again(
@@ -295,42 +266,6 @@ fn put_again(
     add_alike(&mut table.by_hash, alloc, hash, name, declaration)?;
     table.in_order = in_order;
     Ok(())
-}
-
-/// Adds a declaration of that full name behind those of the names of its hash.
-fn add_alike(
-    by_hash: &mut BTreeMap<u64, OneHash>,
-    alloc: Global,
-    hash: u64,
-    name: String,
-    declaration: Declaration,
-) -> Result<(), AllocError>
-    requires { hash ≡ hash_of (string_bytes name) }
-    ensures { OnOk result (AddsByHash by_hash.old by_hash.new (string_bytes name) declaration) }
-{
-    let mut names = names_of(alloc, by_hash.remove(&hash))?;
-    add_last(&mut names, alloc, name, declaration)?;
-    by_hash.insert(hash, OneHash::Names(names))?;
-    Ok(())
-}
-
-/// The names of one hash with their declarations.
-fn names_of(
-    alloc: Global,
-    declared: Option<OneHash>,
-) -> Result<BTreeMap<String, Vec<Declaration>>, AllocError>
-    ensures { IfOk result (λ names. (text : Text) →
-        listed (get_by_text names text) ≡ declared_of declared text) }
-{
-    match declared {
-        None => Ok(BTreeMap::new(alloc)),
-        Some(OneHash::Once(once)) => {
-            let mut names = BTreeMap::new(alloc);
-            add_last(&mut names, alloc, once.name, once.declaration)?;
-            Ok(names)
-        }
-        Some(OneHash::Names(names)) => Ok(names),
-    }
 }
 
 /// Whether the table is in the order of the files, and will be with that declaration of the full
@@ -404,21 +339,5 @@ fn list_name(
     let name = String::from_str(alloc, name)?;
     let names = repeated.entry(file)?.or_insert(Vec::new(alloc));
     names.push(name)?;
-    Ok(())
-}
-
-/// Adds a declaration at the end of the list of that full name.
-fn add_last(
-    by_name: &mut BTreeMap<String, Vec<Declaration>>,
-    alloc: Global,
-    name: String,
-    declaration: Declaration,
-) -> Result<(), AllocError>
-    ensures { OnOk result ((text : Text) →
-        listed (get_by_text by_name.new text) ≡ listed (get_by_text by_name.old text)
-        ++ (if bytes_eq (string_bytes name) text then declaration ∷ [] else [])) }
-{
-    let declarations = by_name.entry(name)?.or_insert(Vec::new(alloc));
-    declarations.push(declaration)?;
     Ok(())
 }

@@ -1,7 +1,7 @@
 use Rattle.std.proofs.Common.{◌∙◌, ap, string_bytes}
 use Rattle.protobuf_parse_model.specs.ByHash.{declared_of}
 use Rattle.protobuf_parse_model.proofs.ByHash.{adds_alike}
-use Rattle.protobuf_parse_model.proofs.scope.declare.add_alike.Goals as goal
+use Rattle.protobuf_parse_model.proofs.scope.by_hash.add_alike.Goals as goal
 
 pub returns : goal.returns
 returns c =
