@@ -10,11 +10,16 @@ use Rattle.std.specs.Map.{lookup}
 use Rattle.std.specs.Ordering.{nat_cmp, is_eq}
 use Rattle.std.proofs.lemmas.Bool.{false≢true}
 use Rattle.std.proofs.lemmas.Bool.Decides.{Decides-eqb}
+use Rattle.std.proofs.lemmas.Map.Text.{btree_map_updates_text}
 use Rattle.std.proofs.lemmas.Slice.Eq.{bytes_eq-Decides}
+use Rattle.std.specs.String.{string_cmp}
 use Rattle.protobuf_parse_model.specs.declared.scope.seen.Declaration.{Declaration}
+use Rattle.protobuf_parse_model.specs.declared.scope.seen.Declared.TheVariants.{Once}
+use Rattle.protobuf_parse_model.specs.declared.scope.seen.DeclaredName.{DeclaredName}
 use Rattle.protobuf_parse_model.specs.declared.scope.seen.OneHash.{OneHash}
-use Rattle.protobuf_parse_model.specs.declared.scope.seen.OneHash.TheVariants.{Once, Names}
-use Rattle.protobuf_parse_model.specs.ByHash.{AddsByHash, declared_by_hash, declared_of, hash_of}
+use Rattle.protobuf_parse_model.specs.declared.scope.seen.OneHash.TheVariants.{Name, Names}
+use Rattle.protobuf_parse_model.specs.ByHash.{AddsByHash, IsWith, declarations_in}
+use Rattle.protobuf_parse_model.specs.ByHash.{declared_by_hash, declared_of, hash_of}
 use Rattle.protobuf_parse_model.specs.declared.scope.seen.Declarations.{Declarations}
 use Rattle.protobuf_parse_model.specs.Descriptors.{Text}
 use Rattle.protobuf_parse_model.specs.FileOrder.{FilesAscend, listed}
@@ -61,11 +66,11 @@ module _ (old new : BTreeMap ℕ OneHash) (full : Text) (d : Declaration) (names
 -- the first name of its hash
 pub adds_first : (old new : BTreeMap ℕ OneHash) (name : String Global) (d : Declaration) (hash : ℕ)
     → hash ≡ hash_of (string_bytes name) → get nat_cmp old hash ≡ None
-    → Updates nat_cmp old new hash (Some (Once (record { name = name; declaration = d })))
+    → Updates nat_cmp old new hash (Some (Name (record { name = name; declared = Once d })))
     → AddsByHash old new (string_bytes name) d
 adds_first old new name d hash is none updates =
     let full = string_bytes name in
-    let names = Once (record { name = name; declaration = d }) in
+    let names = Name (record { name = name; declared = Once d }) in
     adds_by_hash old new full d names
     (λ q. updates.0 q
     ∙ ap (λ h. cond (is_eq (nat_cmp h q)) (Some names) (get nat_cmp old q)) is)
@@ -98,34 +103,37 @@ stays_ordered old new full d None none adds same e text =
 stays_ordered old new full d (Some n) none adds same e text =
     subst FilesAscend (sym (same refl text)) (old.ordered e text)
 
--- no names
-pub none_listed : (m : BTreeMap (String Global) (Vec Declaration)) → m.entries ≡ []
-    → (text : Text) → listed (get_by_text m text) ≡ []
-none_listed m e text =
-    ap (λ es. listed (lookup (is_at (λ k. slice_cmp nat_cmp text (string_bytes k))) es)) e
-
--- a name more of the same hash
+-- a declaration more, behind those of the names of its hash
 pub adds_alike : (old between new : BTreeMap ℕ OneHash) (full : Text) (d : Declaration) (hash : ℕ)
-    (before after : BTreeMap (String Global) (Vec Declaration))
-    → hash ≡ hash_of full
-    → ((text : Text) → listed (get_by_text before text) ≡ declared_of (get nat_cmp old hash) text)
-    → ((text : Text) → listed (get_by_text after text)
-    ≡ listed (get_by_text before text) ++ one_more full d text)
-    → Updates nat_cmp old between hash None
-    → Updates nat_cmp between new hash (Some (Names after))
+    (after : OneHash) → hash ≡ hash_of full → IsWith (get nat_cmp old hash) full d after
+    → Updates nat_cmp old between hash None → Updates nat_cmp between new hash (Some after)
     → AddsByHash old new full d
-adds_alike old between new full d hash before after is was more removes inserts =
-    adds_by_hash old new full d (Names after)
+adds_alike old between new full d hash after is more removes inserts =
+    adds_by_hash old new full d after
     (λ q. inserts.0 q
-    ∙ ap (λ o. cond (is_eq (nat_cmp hash q)) (Some (Names after)) o) (removes.0 q)
+    ∙ ap (λ o. cond (is_eq (nat_cmp hash q)) (Some after) o) (removes.0 q)
     ∙ twice q (is_eq (nat_cmp hash q))
-    ∙ ap (λ h. cond (is_eq (nat_cmp h q)) (Some (Names after)) (get nat_cmp old q)) is)
-    (λ text. more text
-    ∙ ap (λ ds. ds ++ one_more full d text) (was text
-    ∙ ap (λ h. declared_of (get nat_cmp old h) text) is))
+    ∙ ap (λ h. cond (is_eq (nat_cmp h q)) (Some after) (get nat_cmp old q)) is)
+    (λ text. more text ∙ ap (λ h. declared_of (get nat_cmp old h) text ++ one_more full d text) is)
   where
-    twice : (q : ℕ) (b : Bool)
-        → cond b (Some (Names after)) (cond b None (get nat_cmp old q))
-        ≡ cond b (Some (Names after)) (get nat_cmp old q)
+    twice : (q : ℕ) (b : Bool) → cond b (Some after) (cond b None (get nat_cmp old q))
+        ≡ cond b (Some after) (get nat_cmp old q)
     twice q true = refl
     twice q false = refl
+
+-- the only name of its hash, in a map of names
+pub only_listed : (only : DeclaredName) (none names : BTreeMap (String Global) (Vec Declaration))
+    (list : Vec Declaration) → none.entries ≡ []
+    → Updates string_cmp none names only.name (Some list)
+    → list.items ≡ declarations_in only.declared
+    → (text : Text) → declared_of (Some (Names names)) text ≡ declared_of (Some (Name only)) text
+only_listed only none names list empty updates is text =
+    ap listed (btree_map_updates_text (string_bytes only.name) none names (Some list) updates text)
+    ∙ ap (λ es. listed (cond (bytes_eq (string_bytes only.name) text) (Some list)
+    (lookup (is_at (λ k. slice_cmp nat_cmp text (string_bytes k))) es))) empty
+    ∙ at (bytes_eq (string_bytes only.name) text)
+  where
+    at : (b : Bool) → listed (cond b (Some list) None)
+        ≡ (if b then declarations_in only.declared else [])
+    at true = is
+    at false = refl

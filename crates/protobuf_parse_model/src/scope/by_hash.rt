@@ -3,13 +3,13 @@
 ghost use Rattle.std.specs.Prelude.{◌≡◌, [], ◌∷◌, ◌++◌, bytes_eq, if◌then◌else◌, string_bytes};
 ghost use Rattle.std.specs.Prelude.{None, Some, IfOk, IfSome, IsSome, OnOk};
 ghost use Rattle.std.specs.BTreeMap.{get_by_text};
-ghost use Rattle.protobuf_parse_model.specs.declared.scope.seen.OneHash.TheVariants.{Once};
-ghost use Rattle.protobuf_parse_model.specs.ByHash.{AddsByHash, declared_by_hash, declared_of};
-ghost use Rattle.protobuf_parse_model.specs.ByHash.{hash_of};
+ghost use Rattle.protobuf_parse_model.specs.declared.scope.seen.OneHash.TheVariants.{Name, Names};
+ghost use Rattle.protobuf_parse_model.specs.ByHash.{AddsByHash, IsWith, declarations_in};
+ghost use Rattle.protobuf_parse_model.specs.ByHash.{declared_by_hash, declared_of, hash_of};
 ghost use Rattle.protobuf_parse_model.specs.Descriptors.{Text};
 ghost use Rattle.protobuf_parse_model.specs.FileOrder.{listed};
 
-use super::seen::{Declaration, DeclaredOnce, OneHash};
+use super::seen::{Declaration, Declared, DeclaredName, OneHash};
 use std::alloc::{AllocError, Global};
 use std::collections::BTreeMap;
 use std::collections::btree_map::Entry;
@@ -30,7 +30,7 @@ pub fn declared_of<'a>(declared: &'a OneHash, name: &str) -> &'a [Declaration]
     ensures { result.now ≡ declared_of (Some declared.now) name.now }
 {
     match declared {
-        OneHash::Once(once) => declared_once(once, name),
+        OneHash::Name(only) => declared_name(only, name),
         OneHash::Names(names) => match names.get(name) {
             Some(declarations) => declarations,
             None => &[],
@@ -38,14 +38,24 @@ pub fn declared_of<'a>(declared: &'a OneHash, name: &str) -> &'a [Declaration]
     }
 }
 
-/// The declaration of the full name, if that is the one name.
-fn declared_once<'a>(once: &'a DeclaredOnce, name: &str) -> &'a [Declaration]
-    ensures { result.now ≡ declared_of (Some (Once once.now)) name.now }
+/// The declarations of the full name, if that is the only name of its hash.
+fn declared_name<'a>(only: &'a DeclaredName, name: &str) -> &'a [Declaration]
+    ensures { result.now ≡ declared_of (Some (Name only.now)) name.now }
 {
-    if once.name.as_str() == name {
-        slice::from_ref(&once.declaration)
+    if only.name.as_str() == name {
+        declarations_in(&only.declared)
     } else {
         &[]
+    }
+}
+
+/// The declarations of a full name.
+fn declarations_in(declared: &Declared) -> &[Declaration]
+    ensures { result.now ≡ declarations_in declared.now }
+{
+    match declared {
+        Declared::Once(declaration) => slice::from_ref(declaration),
+        Declared::Often(declarations) => declarations,
     }
 }
 
@@ -68,7 +78,8 @@ pub fn insert_first(
 {
     match by_hash.entry(hash)? {
         Entry::Vacant(place) => {
-            place.insert(OneHash::Once(DeclaredOnce { name, declaration }));
+            let declared = Declared::Once(declaration);
+            place.insert(OneHash::Name(DeclaredName { name, declared }));
             Ok(None)
         }
         Entry::Occupied(_) => Ok(Some(name)),
@@ -86,29 +97,73 @@ pub fn add_alike(
     requires { hash ≡ hash_of (string_bytes name) }
     ensures { OnOk result (AddsByHash by_hash.old by_hash.new (string_bytes name) declaration) }
 {
-    let mut names = names_of(alloc, by_hash.remove(&hash))?;
-    add_last(&mut names, alloc, name, declaration)?;
-    by_hash.insert(hash, OneHash::Names(names))?;
+    let declared = with_alike(alloc, by_hash.remove(&hash), name, declaration)?;
+    by_hash.insert(hash, declared)?;
     Ok(())
 }
 
-/// The names of one hash with their declarations.
-fn names_of(
+/// The names of one hash, with a declaration of that full name at the end of its declarations.
+fn with_alike(
     alloc: Global,
     declared: Option<OneHash>,
-) -> Result<BTreeMap<String, Vec<Declaration>>, AllocError>
-    ensures { IfOk result (λ names. (text : Text) →
-        listed (get_by_text names text) ≡ declared_of declared text) }
+    name: String,
+    declaration: Declaration,
+) -> Result<OneHash, AllocError>
+    ensures { IfOk result (IsWith declared (string_bytes name) declaration) }
 {
     match declared {
-        None => Ok(BTreeMap::new(alloc)),
-        Some(OneHash::Once(once)) => {
-            let mut names = BTreeMap::new(alloc);
-            add_last(&mut names, alloc, once.name, once.declaration)?;
-            Ok(names)
+        None => {
+            let declared = Declared::Once(declaration);
+            Ok(OneHash::Name(DeclaredName { name, declared }))
         }
-        Some(OneHash::Names(names)) => Ok(names),
+        Some(OneHash::Name(only)) => with_name(alloc, only, name, declaration),
+        Some(OneHash::Names(names)) => with_last(alloc, names, name, declaration),
     }
+}
+
+/// The same, of the only name of its hash.
+fn with_name(
+    alloc: Global,
+    only: DeclaredName,
+    name: String,
+    declaration: Declaration,
+) -> Result<OneHash, AllocError>
+    ensures { IfOk result (IsWith (Some (Name only)) (string_bytes name) declaration) }
+{
+    let same = only.name.as_str() == name.as_str();
+    let mut declarations = list_of(alloc, only.declared)?;
+    if same {
+        declarations.push(declaration)?;
+        let declared = Declared::Often(declarations);
+        return Ok(OneHash::Name(DeclaredName { name, declared }));
+    }
+    let mut names = BTreeMap::new(alloc);
+    names.insert(only.name, declarations)?;
+    with_last(alloc, names, name, declaration)
+}
+
+/// The declarations of a full name, as a list.
+fn list_of(alloc: Global, declared: Declared) -> Result<Vec<Declaration>, AllocError>
+    ensures { IfOk result (λ list. list.items ≡ declarations_in declared) }
+{
+    match declared {
+        Declared::Once(declaration) => Ok(vec![in alloc; declaration]?),
+        Declared::Often(declarations) => Ok(declarations),
+    }
+}
+
+/// The names, with a declaration of that full name at the end of its declarations.
+fn with_last(
+    alloc: Global,
+    names: BTreeMap<String, Vec<Declaration>>,
+    name: String,
+    declaration: Declaration,
+) -> Result<OneHash, AllocError>
+    ensures { IfOk result (IsWith (Some (Names names)) (string_bytes name) declaration) }
+{
+    let mut names = names;
+    add_last(&mut names, alloc, name, declaration)?;
+    Ok(OneHash::Names(names))
 }
 
 /// Adds a declaration at the end of the list of that full name.

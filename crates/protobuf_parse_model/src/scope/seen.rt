@@ -33,19 +33,26 @@ pub struct Declaration {
     pub kind: DeclarationKind,
 }
 
-/// A full name, which has its first dot, and its one declaration.
+/// The declarations of a full name, as they were added.
 #[derive(Drop)]
-pub struct DeclaredOnce {
-    pub name: String,
-    pub declaration: Declaration,
+pub enum Declared {
+    /// One alone, as nearly all names have: it needs no list.
+    Once(Declaration),
+    Often(Vec<Declaration>),
 }
 
-/// What the full names of one hash are declared as.
+/// A full name, which has its first dot, with its declarations.
+#[derive(Drop)]
+pub struct DeclaredName {
+    pub name: String,
+    pub declared: Declared,
+}
+
+/// The full names of one hash, with their declarations.
 #[derive(Drop)]
 pub enum OneHash {
-    /// One name, which is declared once: nearly all are.
-    Once(DeclaredOnce),
-    /// The declarations of each name, as they were added.
+    /// One alone, as nearly all hashes have.
+    Name(DeclaredName),
     Names(BTreeMap<String, Vec<Declaration>>),
 }
 
