@@ -351,6 +351,17 @@ def agreeing(n):
     yield from block("message M", n, lambda i: f"optional int32 {alike[i]} = {field_number(i)};")
 
 
+def full_names(n):
+    """n messages whose full names have one hash, each with a field of the type before it."""
+    package = "a" * 14
+    front = f".{package}."
+    alike = [name.removeprefix(front) for name in colliding(n, front)]
+    yield PROTO2
+    yield f"package {package};\n"
+    for i in range(n):
+        yield f"message {alike[i]} {{ optional {alike[i - 1]} f = 1; }}\n"
+
+
 def paths(n):
     """n proto paths that have one hash, a line each: for the benchmark's --same."""
     return (name + "\n" for name in colliding(n))

@@ -32,8 +32,9 @@ SCALARS = (
 
 ATTACKS = [
     ("fields", 300000), ("prefixes", 100000), ("values", 300000), ("defaults", 80000),
-    ("json_names", 100000), ("collisions", 20000), ("agreeing", 1024), ("constants", 1000),
-    ("lists", 200000), ("items", 5000000), ("pieces", 2500000), ("extends", 80000),
+    ("json_names", 100000), ("collisions", 20000), ("agreeing", 1024), ("full_names", 20000),
+    ("constants", 1000), ("lists", 200000), ("items", 5000000), ("pieces", 2500000),
+    ("extends", 80000),
     ("reserved", 50000), ("oneofs", 50000), ("maps", 50000), ("options", 200000),
     ("methods", 100000), ("braces", 10000000), ("comment", 10000000), ("extensions", 20000),
     ("deep", 200), ("parts", 100000), ("set_fields", 40000), ("set_paths", 40000),

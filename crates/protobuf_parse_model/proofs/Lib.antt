@@ -4,6 +4,7 @@ pub mod TreeViews
 pub mod Scopes
 pub mod FileOrder
 pub mod Tables
+pub mod ByHash
 pub mod Picks
 pub mod Links
 pub mod DeclaredLevels

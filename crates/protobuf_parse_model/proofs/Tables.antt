@@ -36,8 +36,9 @@ use Rattle.protobuf_parse_model.specs.Declarations.{extend_extensions, extension
 use Rattle.protobuf_parse_model.specs.Declarations.{file_extensions, file_generated, file_types}
 use Rattle.protobuf_parse_model.specs.Declarations.{full_name, generated_of, inside, types_of}
 use Rattle.protobuf_parse_model.specs.Statements.{field_statement_name}
-use Rattle.protobuf_parse_model.specs.SeenFiles.{declared_as, listed}
-use Rattle.protobuf_parse_model.specs.Tables.{Adds, AddsOne, Entry, KeepsListed, ListsOne}
+use Rattle.protobuf_parse_model.specs.FileOrder.{listed}
+use Rattle.protobuf_parse_model.specs.SeenFiles.{declared_as}
+use Rattle.protobuf_parse_model.specs.Tables.{Adds, AddsOne, Entry, KeepsListed, ListsOne, SaysSame}
 use Rattle.protobuf_parse_model.specs.Tables.{ListsRepeated, TableTells, name_list, names_listed}
 use Rattle.protobuf_parse_model.specs.Tables.{declared_by, declared_in, declared_in_file}
 use Rattle.protobuf_parse_model.specs.Tables.{extension_entry, generated_entry, listed_names}
@@ -233,6 +234,19 @@ adds_one old new full d adds lists = record {
               (lists.again was
               (subst (λ (t : Text). 0 < length (declared_as old t)) (sym is) some)))
         ]
+
+-- the same, where the table was first made one that says the same
+pub adds_after_same : (old between new : Declarations) (full : Text) (d : Declaration)
+    → SaysSame old between → AddsOne between new full d → AddsOne old new full d
+adds_after_same old between new full d same adds = record {
+  declares = λ text. adds.declares text
+      ∙ ap (λ ds. ds ++ (if bytes_eq full text then d ∷ [] else [])) (same.declares text);
+  lists = λ was. adds.lists (λ text more x h.
+      subst (λ (m : BTreeMap ℕ (Vec (String Global))). Contains (names_listed m x.file) text)
+      (sym same.lists)
+      (was text (subst (λ (ds : List Declaration). 1 < length ds) (same.declares text) more) x
+      (subst (λ (ds : List Declaration). Contains ds x) (same.declares text) h)));
+}
 
 -- ---- declarations of a file, one after another
 

@@ -7,6 +7,7 @@ pub mod Lookup
 pub mod Duplicates
 pub mod Environment
 pub mod BuiltinOptions
+pub mod ByHash
 pub mod OptionNumbers
 pub mod OptionMessages
 pub mod SeenFiles

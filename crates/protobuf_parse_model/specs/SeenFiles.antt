@@ -3,7 +3,6 @@ use Rattle.std.specs.Prelude.{ℕ, List, [], ◌∷◌, map, nat_eq}
 use Rattle.std.specs.Prelude.{Option, Some, None, option_map, if◌then◌else◌, string_bytes}
 use Rattle.std.specs.Borrow.{Bor}
 use Rattle.std.specs.List.{list_any}
-use Rattle.std.specs.BTreeMap.{get_by_text}
 use Rattle.std.specs.Option.{option_or}
 use Rattle.protobuf_parse_model.specs.declared.scope.Context.{Context}
 use Rattle.protobuf_parse_model.specs.declared.scope.Meaning.{Meaning}
@@ -16,7 +15,7 @@ use Rattle.protobuf_parse_model.specs.declared.scope.seen.Declarations.{Declarat
 use Rattle.protobuf_parse_model.specs.declared.scope.seen.Seen.{Seen}
 use Rattle.protobuf_parse_model.specs.Descriptors.{Text}
 use Rattle.protobuf_parse_syntax.specs.Trees.{FileSyntax}
-pub use Rattle.protobuf_parse_model.specs.FileOrder.{listed}
+use Rattle.protobuf_parse_model.specs.ByHash.{declared_by_hash}
 use Rattle.protobuf_parse_model.specs.Declarations as declared
 use Rattle.protobuf_parse_model.specs.Declarations.{DeclaredType, a_message, an_enum, file_scope}
 use Rattle.protobuf_parse_model.specs.Environment.{Environment, Customs, no_customs}
@@ -50,7 +49,7 @@ first_kind (d ∷ ds) = option_or (type_kind d.kind) (first_kind ds)
 
 -- the declarations of the full name
 abbrev pub declared_as : Declarations → Text → List Declaration
-declared_as ds name = listed (get_by_text ds.by_name name)
+declared_as ds name = declared_by_hash ds.by_hash name
 
 abbrev pub declared_type : Text → TypeKind → DeclaredType
 declared_type name k = record { name = name; what = kind_view k }

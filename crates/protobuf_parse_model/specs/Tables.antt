@@ -114,6 +114,11 @@ pub record AddsOne (old new : Declarations) (full : Text) (d : Declaration) : Ty
       → declared_as new name ≡ declared_as old name ++ (if bytes_eq full name then d ∷ [] else [])
   pub lists : ListsRepeated old → ListsRepeated new
 
+-- tables that say the same of each name
+pub record SaysSame (old new : Declarations) : Type 0 where
+  pub declares : (name : Text) → declared_as new name ≡ declared_as old name
+  pub lists : new.repeated ≡ old.repeated
+
 -- the files with these numbers
 abbrev pub picked : {T : Type 0} → List T → List ℕ → List T
 picked files numbers = flat_map (λ (n : ℕ). option_to_list (slice_get files n)) numbers

@@ -18,6 +18,7 @@ ghost use Rattle.protobuf_parse_model.specs.SeenFiles.{meaning_view};
 ghost use Rattle.protobuf_parse_model.specs.SeenFiles.{declared_type, seen_types};
 ghost use Rattle.protobuf_parse_model.specs.SeenFiles.{name_texts, type_kind};
 
+mod by_hash;
 mod declare;
 mod extensions;
 mod generated;
@@ -25,6 +26,7 @@ mod ordered;
 mod seen;
 
 use crate::descriptor::FieldType;
+use by_hash::{declared_of, hash_of};
 pub use declare::{file_scope, scope_of_package};
 pub use ordered::in_file;
 use protobuf_parse_syntax::Syntax;
@@ -184,8 +186,8 @@ fn kind_declared(seen: &Seen<'_>, name: &str) -> Option<TypeKind>
 pub fn declarations_of<'a>(table: &'a Declarations, name: &str) -> &'a [Declaration]
     ensures { result.now ≡ declared_as table.now name.now }
 {
-    match table.by_name.get(name) {
-        Some(declarations) => declarations,
+    match table.by_hash.get(&hash_of(name)) {
+        Some(declared) => declared_of(declared, name),
         None => &[],
     }
 }

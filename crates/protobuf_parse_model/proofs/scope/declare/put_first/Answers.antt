@@ -1,27 +1,23 @@
-use Rattle.std.proofs.Common.{◌<◌, ◌≤◌, ◌-◌, List, ap, arith, get_or, length, refl, string_bytes, subst, sym}
-use Rattle.protobuf_parse_model.specs.declared.scope.seen.Declaration.{Declaration}
-use Rattle.protobuf_parse_model.specs.FileOrder.{FilesAscend}
-use Rattle.protobuf_parse_model.specs.SeenFiles.{declared_as}
-use Rattle.protobuf_parse_model.proofs.FileOrder.{ascend_more}
+use Rattle.std.proofs.Common.{refl, string_bytes}
+use Rattle.protobuf_parse_model.proofs.ByHash.{stays_ordered}
 use Rattle.protobuf_parse_model.proofs.Tables.{adds_one, lists_none}
 use Rattle.protobuf_parse_model.proofs.scope.declare.put_first.Goals as goal
 
 pub invariant_of-table-2 : goal.invariant_of-table-2
-invariant_of-table-2 c =
+invariant_of-table-2 c = record {
+  ordered = stays_ordered c.args.table.now c.insert_first.new.by_hash (string_bytes c.args.name)
+      c.args.declaration c.in_ok-taken.taken c.in_ok-taken.ensures.first
+      c.in_ok-taken.ensures.adds c.in_ok-taken.ensures.same;
+}
+
+pub returns-clause-adds : goal.returns-clause-adds
+returns-clause-adds c = λ none.
     let old = c.args.table.now in
     let full = string_bytes c.args.name in
     let d = c.args.declaration in
-    let last = λ (x : Declaration) (some : 0 < length (declared_as old full)).
-    absurd {A = (get_or (declared_as old full) (length (declared_as old full) - 1) x).file ≤ d.file}
-    (let none = ap (λ (ds : List Declaration). length ds) c.requires in omega (arith, none, some)) in
-    record {
-      ordered = λ e text. subst FilesAscend (sym (c.in_ok-add_last.ensures text))
-          (ascend_more (declared_as old) (old.ordered e) full d last text);
-    }
+    adds_one old _ full d (c.in_ok-taken.ensures.adds none)
+    (lists_none old old.repeated full d.file (c.in_ok-taken.ensures.first none) refl)
 
-pub returns : goal.returns
-returns c =
-    let old = c.args.table.now in
-    let full = string_bytes c.args.name in
-    adds_one old _ full c.args.declaration c.in_ok-add_last.ensures
-    (lists_none old old.repeated full c.args.declaration.file c.requires refl)
+pub returns-clause-same : goal.returns-clause-same
+returns-clause-same c = λ some.
+    record { declares = c.in_ok-taken.ensures.same some; lists = refl }

@@ -1,0 +1,42 @@
+-- What full names are declared as, by their hashes.
+use Rattle.std.specs.Prelude.{◌≡◌, ℕ, List, [], ◌∷◌, ◌++◌, Option, None, Some, if◌then◌else◌}
+use Rattle.std.specs.Prelude.{bytes_eq, string_bytes}
+use Rattle.std.specs.BTreeMap.{BTreeMap, get, get_by_text}
+use Rattle.std.specs.Hash.FoldHasher.{initial, write, finish}
+use Rattle.std.specs.Ordering.{nat_cmp}
+use Rattle.protobuf_parse_model.specs.declared.scope.seen.Declaration.{Declaration}
+use Rattle.protobuf_parse_model.specs.declared.scope.seen.OneHash.{OneHash}
+use Rattle.protobuf_parse_model.specs.declared.scope.seen.Declared.{Declared}
+use Rattle.protobuf_parse_model.specs.declared.scope.seen.Declared.TheVariants.{Once, Often}
+use Rattle.protobuf_parse_model.specs.declared.scope.seen.OneHash.TheVariants.{Name, Names}
+use Rattle.protobuf_parse_model.specs.FileOrder.{listed}
+
+-- the hash of a full name: what the hasher of std's maps makes of its bytes
+abbrev pub hash_of : List ℕ → ℕ
+hash_of name = finish (write initial name)
+
+-- the declarations of a full name, as they were added
+abbrev pub declarations_in : Declared → List Declaration
+declarations_in (Once d) = d ∷ []
+declarations_in (Often ds) = ds.items
+
+-- the declarations of the full name, among the names of its hash
+abbrev pub declared_of : Option OneHash → List ℕ → List Declaration
+declared_of None name = []
+declared_of (Some (Name n)) name =
+    if bytes_eq (string_bytes n.name) name then declarations_in n.declared else []
+declared_of (Some (Names names)) name = listed (get_by_text names name)
+
+-- the declarations of the full name
+abbrev pub declared_by_hash : BTreeMap ℕ OneHash → List ℕ → List Declaration
+declared_by_hash by_hash name = declared_of (get nat_cmp by_hash (hash_of name)) name
+
+-- the declaration was added at the end of those of the full name
+abbrev pub AddsByHash : (old new : BTreeMap ℕ OneHash) → List ℕ → Declaration → Type 0
+AddsByHash old new full d = (name : List ℕ) → declared_by_hash new name
+    ≡ declared_by_hash old name ++ (if bytes_eq full name then d ∷ [] else [])
+
+-- what the names of a hash become, where the full name gets the declaration at the end of its own
+abbrev pub IsWith : Option OneHash → List ℕ → Declaration → OneHash → Type 0
+IsWith old full d new = (name : List ℕ) → declared_of (Some new) name
+    ≡ declared_of old name ++ (if bytes_eq full name then d ∷ [] else [])
