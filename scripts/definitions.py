@@ -4,7 +4,8 @@
 Run it at the top of the repository: scripts/definitions.py prints each file of specs/ that has
 such a definition, with the lines of these definitions and of the whole file, and the sum. With
 --unused it lists the definitions of specs/ that no public clause rests on. A file that has none
-begins with the line MARK; where that is not so the status is 1.
+begins with the line MARK, and docs/definitions.md says the sums; where that is not so the status is
+1.
 """
 
 import re
@@ -12,6 +13,7 @@ import sys
 from collections import defaultdict
 from pathlib import Path
 
+PAGE = Path("docs/definitions.md")
 MARK = "-- No public clause rests on this file.\n"
 CRATES = "base lexer syntax model elaboration wire options descriptor_set listing rules index".split()
 CRATES += ["run", ""]
@@ -183,6 +185,18 @@ def rests(found, passed_on):
     return needed
 
 
+def sentence(lines):
+    """What docs/definitions.md says of these lines of files."""
+    parts = []
+    for crate in CRATES:
+        counts = [n for path, n in lines.items() if crate_folder(crate) in path.parents]
+        parts.append(f"`{crate_folder(crate).name}` {sum(counts)} in {len(counts)}")
+    return (
+        f"{sum(lines.values()):,} lines of definitions and their comments in {len(lines)} files "
+        f"({'; '.join(parts)})"
+    )
+
+
 def main():
     found, sizes, passed_on = read_specs()
     needed = rests(found, passed_on)
@@ -200,7 +214,11 @@ def main():
     print(f"{sum(lines.values()):5} in {len(lines)} files")
     for path in wrong:
         print(f"its first line is wrong: {path}")
-    return 1 if wrong else 0
+    said = sentence(lines)
+    is_told = said in PAGE.read_text()
+    if not is_told:
+        print(f"{PAGE} doesn't say: {said}")
+    return 1 if wrong or not is_told else 0
 
 
 sys.exit(main())

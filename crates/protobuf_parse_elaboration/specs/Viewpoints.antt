@@ -1,3 +1,4 @@
+-- No public clause rests on this file.
 -- From where the code sees a construct, as an environment.
 use Rattle.protobuf_parse_model.specs.Environment.{Customs, Environment}
 use Rattle.protobuf_parse_model.specs.SeenFiles.{environment_in}
