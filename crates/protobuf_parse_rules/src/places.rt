@@ -17,7 +17,7 @@ ghost use Rattle.protobuf_parse_rules.specs.Places.{reserved_names};
 ghost use Rattle.protobuf_parse_rules.specs.Places.{reserved_ranges, services_of};
 
 use crate::claims::Holder;
-use crate::finding::Spot;
+use crate::finding::{Spot, full_name};
 use protobuf_parse_model::{
     DescriptorProto, EnumDescriptorProto, ExtensionRange, FieldDescriptorProto,
     FileDescriptorProto, ReservedRange, ServiceDescriptorProto,
@@ -264,7 +264,7 @@ fn add_message<'a>(
         ++ map (message_place path.now proto3)
         (declared_message scope.now (message_view message.now))) }
 {
-    let name = format!(in alloc; "{scope}.{}", message.name)?;
+    let name = full_name(alloc, scope, &message.name)?;
     bodies.push(Body {
         file: path,
         proto3,

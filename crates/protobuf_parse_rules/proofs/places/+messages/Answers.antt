@@ -5,7 +5,7 @@ use Rattle.std.proofs.lemmas.List.{map-append}
 use Rattle.protobuf_parse_model.specs.declared.descriptor.DescriptorProto.{DescriptorProto}
 use Rattle.protobuf_parse_model.specs.declared.descriptor.DescriptorProto.{out-DescriptorProto}
 use Rattle.protobuf_parse_model.specs.Descriptors.{Text, message_parts, message_view}
-use Rattle.protobuf_parse_wire.specs.Declarations.{Declaration, declared_message}
+use Rattle.protobuf_parse_wire.specs.Declarations.{Declaration, declared_message, name_within}
 use Rattle.protobuf_parse_rules.specs.Places.{Place, body_view, message_place}
 use Rattle.protobuf_parse_rules.proofs.Lists.{joined_one_more}
 use Rattle.protobuf_parse_rules.proofs.Placing.{message_declared, places_more}
@@ -32,11 +32,12 @@ add_message-returns t c =
     (λ nested. places_more path proto3 old mid new (d ∷ []) inner
     (declared_message c.args.scope.now (message_view m)) pushed
     (nested ∙ ap (λ (ds : List Declaration). mid ++ map (message_place path proto3) ds)
-    (ap (λ (s : Text). flat_map (declared_message s) (map message_view c.deref-2.result.now))
-    c.deref.ensures
+    (ap (λ (s : Text). flat_map (declared_message s) (map message_view c.deref-3.result.now))
+    c.deref-2.ensures
     ∙ ap (λ (ms : List DescriptorProto). flat_map (declared_message name) (map message_view ms))
-    c.deref-2.ensures.value))
-    (message_declared c.args.scope.now name m c.in_ok-name.ensures.ok))
+    c.deref-3.ensures.value))
+    (message_declared c.args.scope.now name m
+    (c.in_ok-name.ensures ∙ ap (name_within c.args.scope.now) c.deref.ensures)))
     c.add_messages.ensures
 
 pub add_messages-messages-preserved : goal.add_messages-messages-preserved
