@@ -28,7 +28,7 @@ pub fn key_of(number: i32, name: &str) -> u64
 pub const NO_TEXT: u64 = 0xcbf2_9ce4_8422_2325;
 
 /// The key of a text with this one behind it, by that of the text: so the key of a scope is made
-/// once for all names in it. Four bytes at a time spared 3 million instructions for 100,000 names.
+/// once for all names in it. Four bytes at a time spare turns of the loop.
 pub fn text_key(front: u64, text: &str) -> u64
     ensures { result ≡ fold spec.mixed front text.now }
 {
@@ -83,7 +83,8 @@ fn plain_bytes_key(front: u64, bytes: &[u8]) -> u64
 }
 
 /// The key of a text and one byte more, if that is no underscore. Small letters come first, since
-/// names mostly have these: that spared 8 million instructions for 100,000 fields.
+/// names mostly have these: that, and four bytes at a time, spared 9 million instructions for
+/// 100,000 fields.
 fn plain_mixed(key: u64, byte: u8) -> u64
     ensures { result ≡ spec.plain_mixed key byte }
 {
@@ -119,7 +120,7 @@ pub fn are_apart(keys: Vec<u64>) -> bool
 }
 
 /// The same where there are few. A key is compared with those before it only where one of them has
-/// its slot: that spared 8 million instructions for 4,000 messages of 25 fields.
+/// its slot: that spared 7 million instructions for 4,000 messages of 25 fields.
 fn each_is_new(keys: &[u64]) -> bool
     ensures { result ≡ true → IsDistinct eqb keys.now }
 {
