@@ -1,4 +1,5 @@
-//! Single fields: a tag and a value. What writes numbers is inlined where the field number is known.
+//! Single fields: a tag and a value. What writes numbers is inlined where the field number is
+//! known.
 
 ghost use Rattle.std.specs.Prelude.{◌≡◌, ◌++◌, ◌+◌, ◌*◌, OnOk, flat_map, map, option_map};
 ghost use Rattle.std.specs.Prelude.{string_bytes};
@@ -9,6 +10,7 @@ ghost use Rattle.protobuf_parse_wire.specs.Encoded.{varint_of, delimited};
 use protobuf_parse_wire::{put_message, put_varint_record};
 use std::alloc::AllocError;
 
+/// Adds a field with a text.
 #[tactic(auto, using(crate::proofs::Joining::writes_text))]
 pub fn put_text(out: &mut Vec<u8>, number: u32, text: &str) -> Result<(), AllocError>
     ensures { OnOk result
@@ -49,6 +51,7 @@ fn put_number(out: &mut Vec<u8>, number: u32, value: u64) -> Result<(), AllocErr
     }
 }
 
+/// Adds a field with a text, if there is one.
 #[tactic(auto, using(crate::proofs::Joining::none_yet))]
 pub fn put_text_if_some(
     out: &mut Vec<u8>,
@@ -65,6 +68,7 @@ pub fn put_text_if_some(
     }
 }
 
+/// Adds a field with each of the texts.
 pub fn put_texts(out: &mut Vec<u8>, number: u32, texts: &[String]) -> Result<(), AllocError>
     ensures { OnOk result
         (Writes (flat_map (spec.text number) (map string_bytes texts.now))
@@ -76,6 +80,7 @@ pub fn put_texts(out: &mut Vec<u8>, number: u32, texts: &[String]) -> Result<(),
     Ok(())
 }
 
+/// Adds a field with an `int32`.
 #[inline(always)]
 #[tactic(auto, using(crate::proofs::Joining::writes_int))]
 pub fn put_int(out: &mut Vec<u8>, number: u32, value: &i32) -> Result<(), AllocError>
@@ -84,6 +89,7 @@ pub fn put_int(out: &mut Vec<u8>, number: u32, value: &i32) -> Result<(), AllocE
     put_number(out, number, i64::from(*value).cast_unsigned())
 }
 
+/// Adds a field with an `int32`, if there is one.
 #[tactic(auto, using(crate::proofs::Joining::none_yet))]
 pub fn put_int_if_some(
     out: &mut Vec<u8>,
@@ -100,6 +106,7 @@ pub fn put_int_if_some(
     }
 }
 
+/// Adds a field with each of the numbers, unpacked.
 pub fn put_ints(out: &mut Vec<u8>, number: u32, values: &[i32]) -> Result<(), AllocError>
     ensures { OnOk result
         (Writes (flat_map (spec.int number) values.now)
@@ -120,6 +127,7 @@ pub fn put_choice(out: &mut Vec<u8>, number: u32, value: i32) -> Result<(), Allo
     put_number(out, number, i64::from(value).cast_unsigned())
 }
 
+/// Adds a field with a truth value.
 #[tactic(auto, using(crate::proofs::Joining::writes_flag))]
 pub fn put_flag(out: &mut Vec<u8>, number: u32, value: bool) -> Result<(), AllocError>
     ensures { OnOk result (Writes (spec.flag number value) out.old.items out.new.items) }
@@ -127,6 +135,7 @@ pub fn put_flag(out: &mut Vec<u8>, number: u32, value: bool) -> Result<(), Alloc
     put_number(out, number, u64::from(value))
 }
 
+/// Adds a field with a truth value, if there is one.
 #[tactic(auto, using(crate::proofs::Joining::none_yet))]
 pub fn put_flag_if_some(
     out: &mut Vec<u8>,

@@ -28,6 +28,7 @@ use protobuf_parse_model::{
 use std::alloc::{AllocError, Global};
 use std::collections::BTreeSet;
 
+/// Adds the lines of a file: what it says itself, then what it declares.
 pub fn put_file(
     alloc: Global,
     text: &mut String,

@@ -13,6 +13,7 @@ use crate::settings::put_field_options;
 use protobuf_parse_model::{FieldDescriptorProto, FieldType, Label};
 use std::alloc::{AllocError, Global};
 
+/// Adds the lines of fields, which stand at that level.
 pub fn put_fields(
     alloc: Global,
     text: &mut String,
@@ -29,6 +30,7 @@ pub fn put_fields(
     Ok(())
 }
 
+/// Adds the lines of extensions, which stand at that level.
 pub fn put_extensions(
     alloc: Global,
     text: &mut String,
@@ -197,6 +199,7 @@ fn put_oneof_index(text: &mut String, index: Option<i32>) -> Result<(), AllocErr
     }
 }
 
+/// Adds the words, if that is so.
 pub fn put_words_if(text: &mut String, is_so: bool, words: &str) -> Result<(), AllocError>
     ensures { OnOk result
         (string_bytes text.new ≡ string_bytes text.old ++ spec.words_if is_so words.now) }

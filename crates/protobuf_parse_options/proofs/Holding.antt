@@ -21,7 +21,8 @@ use Rattle.protobuf_parse_options.specs.declared.spots.Spot.{Spot}
 use Rattle.protobuf_parse_options.specs.ByName.{named}
 use Rattle.protobuf_parse_wire.specs.Declarations.{Declaration, messages_declared_in}
 use Rattle.protobuf_parse_wire.specs.Declarations.{messages_named}
-use Rattle.protobuf_parse_options.specs.Holding.{AddsSpots, Picks, SpotView, at_spot, at_spots, beside}
+use Rattle.protobuf_parse_options.specs.Holding.{AddsSpots, Picks, SpotView, at_spot, at_spots}
+use Rattle.protobuf_parse_options.specs.Holding.{beside}
 use Rattle.protobuf_parse_options.specs.Holding.{file_numbered, files_seen, inside_of, spotted_view}
 use Rattle.protobuf_parse_options.specs.Holding.{spot_in, spot_of, spot_view, spots_in}
 use Rattle.protobuf_parse_options.specs.Holding.{spots_of_list}
@@ -185,7 +186,8 @@ spots_of_known {T = T} {U = U} seen parts file name (k ∷ ks) =
     by_test true e rest = rw e (ap (λ (ss : List SpotView). spot_of of_parts file k ∷ ss) rest)
     by_test false e rest = rw e rest
 
-pub spots_push : {T : Type 0} (parts : T → List Text) (listed : FileDescriptor → List (SpottedView T))
+pub spots_push : {T : Type 0} (parts : T → List Text)
+    (listed : FileDescriptor → List (SpottedView T))
     (name : Text) (n : ℕ) (fs : List FileDescriptor) (f : FileDescriptor)
     → spots_in_files parts listed name n (fs ++ f ∷ [])
     ≡ spots_in_files parts listed name n fs ++ spots_in parts (n + length fs) name (listed f)
@@ -196,7 +198,8 @@ spots_push parts listed name n (x ∷ fs) f = let e : suc n + length fs
     ap (λ ss. spots_in parts n name (listed x) ++ ss)
     (spots_push parts listed name (suc n) fs f
     ∙ ap (λ i. spots_in_files parts listed name (suc n) fs ++ spots_in parts i name (listed f)) e)
-    ∙ sym (append_assoc (spots_in parts n name (listed x)) (spots_in_files parts listed name (suc n) fs)
+    ∙ sym (append_assoc (spots_in parts n name (listed x))
+    (spots_in_files parts listed name (suc n) fs)
     (spots_in parts (n + suc (length fs)) name (listed f)))
 
 -- the spots of what the next file declares
@@ -231,7 +234,8 @@ named_without name [] = refl
 named_without {T = T} name (p ∷ ps) = by_test (bytes_eq name p.name) (named_without name ps)
   where
     by_test : (b : Bool)
-        → map (λ (q : SpottedView T). q.what) (filter (λ (q : SpottedView T). bytes_eq name q.name) ps)
+        → map (λ (q : SpottedView T). q.what)
+        (filter (λ (q : SpottedView T). bytes_eq name q.name) ps)
         ≡ named name (map declared_of ps)
         → map (λ (q : SpottedView T). q.what)
         (cond b (p ∷ filter (λ (q : SpottedView T). bytes_eq name q.name)

@@ -90,7 +90,8 @@ number_found position name (Some e) h =
 -- ---- at spots
 
 -- At the spot are kept the positions of the parts of what stands there.
-abbrev pub KeepsPositions : {T : Type 0} → (T → List Text) → (Inside → List T) → PickedFiles → SpotView
+abbrev pub KeepsPositions : {T : Type 0} → (T → List Text) → (Inside → List T) → PickedFiles
+    → SpotView
     → Type 0
 KeepsPositions parts list picks s =
     IfSome (at_spot list picks s) (λ x. s.position ≡ kept_position (parts x))
@@ -137,7 +138,8 @@ module _ {T : Type 0} (parts : T → List Text) (list : Inside → List T)
       both (KeepsPositions parts list picks) (spots_in parts n name (listed f))
       (spots_in_files parts listed name (suc n) fs)
       (all_spots (StandsIn list f) (KeepsPositions parts list picks) (spot_in parts n)
-      (λ (p : SpottedView T). bytes_eq name p.name) (one_told n f (rest_first files n f fs h)) (listed f)
+      (λ (p : SpottedView T). bytes_eq name p.name) (one_told n f (rest_first files n f fs h))
+      (listed f)
       (stand f))
       (from_told (suc n) fs (rest_next files n f fs h))
 

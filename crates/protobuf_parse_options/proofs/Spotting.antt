@@ -270,7 +270,8 @@ nested_is scope path n (m ∷ ms) = ap (λ ps. spotted_message scope path n m ++
 
 -- a message, then those inside it
 parts_listed : (scope name : Text) (path : List ℕ) (index : ℕ) (m : MessageDescriptor)
-    (parts : MessageParts) (ms : List MessageDescriptor) (old new : List (SpottedView MessageDescriptor))
+    (parts : MessageParts) (ms : List MessageDescriptor)
+    (old new : List (SpottedView MessageDescriptor))
     → m ≡ a_message parts (messages_of_list ms) → name ≡ name_within scope parts.name
     → new ≡ (old ++ record { name = name; path = path; index = index; what = m } ∷ [])
     ++ spotted_list name (path ++ index ∷ []) 0 ms
@@ -291,7 +292,8 @@ parts_listed scope name path index m parts ms old new apart named is =
     head n x = record { name = n; path = path; index = index; what = x }
 
 pub message_listed : (scope name : Text) (path : List ℕ) (index : ℕ) (m : DescriptorProto)
-    (old new : List (SpottedView MessageDescriptor)) → name ≡ name_within scope (message_parts m).name
+    (old new : List (SpottedView MessageDescriptor)) → name
+    ≡ name_within scope (message_parts m).name
     → new ≡ (old ++ record {
       name = name;
       path = path;

@@ -10,7 +10,7 @@ use Rattle.protobuf_parse_model.specs.SeenFiles.{name_texts}
 use Rattle.protobuf_parse_model.specs.Descriptors.{Text, FieldDescriptor}
 use Rattle.protobuf_parse_model.specs.Environment.{part_text, option_path_text}
 use Rattle.protobuf_parse_model.specs.Faults.{Wrong}
-use Rattle.protobuf_parse_options.specs.declared.option_place.OptionPlace.{OptionPlace}
+use Rattle.protobuf_parse_options.specs.declared.viewpoint.OptionViewpoint.{OptionViewpoint}
 use Rattle.protobuf_parse_options.specs.CustomFaults.{constant_name_faults, number_faults}
 use Rattle.protobuf_parse_options.specs.CustomFaults.{path_faults}
 use Rattle.protobuf_parse_options.specs.CustomFaults.{step_faults, constant_faults}
@@ -23,8 +23,8 @@ use Rattle.protobuf_parse_wire.specs.Encoded.{encoded}
 use Rattle.protobuf_parse_wire.specs.Views.{WireItem, entries_of_list}
 use Rattle.protobuf_parse_wire.specs.Writing.{AreWritable}
 
-abbrev pub option_place_view : OptionPlace → OptionScope
-option_place_view p = record {
+abbrev pub option_scope_view : OptionViewpoint → OptionScope
+option_scope_view p = record {
   files = files_seen p.known.now.reach;
   visible = files_seen p.known.now.sight;
   scope = name_texts p.scope.now;

@@ -67,10 +67,12 @@ message_seen m = message_view m.now
 abbrev pub enum_seen : Bor EnumDescriptorProto → EnumDescriptor
 enum_seen e = enum_view e.now
 
-abbrev pub messages_spotted : List (Spotted (Bor DescriptorProto)) → List (SpottedView MessageDescriptor)
+abbrev pub messages_spotted : List (Spotted (Bor DescriptorProto))
+    → List (SpottedView MessageDescriptor)
 messages_spotted ks = map (spotted_view message_seen) ks
 
-abbrev pub enums_spotted : List (Spotted (Bor EnumDescriptorProto)) → List (SpottedView EnumDescriptor)
+abbrev pub enums_spotted : List (Spotted (Bor EnumDescriptorProto))
+    → List (SpottedView EnumDescriptor)
 enums_spotted ks = map (spotted_view enum_seen) ks
 
 abbrev pub extensions_spotted : List (Spotted (Bor FieldDescriptorProto))
@@ -91,7 +93,8 @@ spot_in parts file p = record {
 }
 
 -- the spots of what has the name, in the file with this number
-abbrev pub spots_in : {T : Type 0} → (T → List Text) → ℕ → Text → List (SpottedView T) → List SpotView
+abbrev pub spots_in : {T : Type 0} → (T → List Text) → ℕ → Text → List (SpottedView T)
+    → List SpotView
 spots_in parts file name ps = map (spot_in parts file) (filter (λ p. bytes_eq name p.name) ps)
 
 -- those of what the code's list has
@@ -109,7 +112,8 @@ spots_of_list parts file name ks =
     map (spot_of parts file) (filter (λ k. bytes_eq name (string_bytes k.name)) ks)
 
 -- the same in files, of which the first has the number n and each next one the next number
-abbrev pub spots_in_files : {T : Type 0} → (T → List Text) → (FileDescriptor → List (SpottedView T)) → Text
+abbrev pub spots_in_files : {T : Type 0} → (T → List Text) → (FileDescriptor → List (SpottedView T))
+    → Text
     → ℕ → List FileDescriptor → List SpotView
 spots_in_files parts listed name n [] = []
 spots_in_files parts listed name n (f ∷ fs) =
@@ -129,7 +133,8 @@ pub record Holds (spots : Spots) (files : List FileDescriptor) : Type 0 where
   pub enums : (name : Text)
       → spots_under spots.enums name ≡ spots_in_files value_names spotted_enums name 0 files
   pub extensions : (name : Text)
-      → spots_under spots.extensions name ≡ spots_in_files extension_parts spotted_extensions name 0 files
+      → spots_under spots.extensions name
+      ≡ spots_in_files extension_parts spotted_extensions name 0 files
   pub small : AllByRecursion (λ f. HaveSmall (declared_enums f)) files
 
 -- ---- the files that are picked

@@ -59,7 +59,8 @@ abbrev pub path_to : SpottedView MessageDescriptor → List ℕ
 path_to m = m.path ++ m.index ∷ []
 
 -- things of one list, of which the first has this number
-abbrev pub spotted_each : {T : Type 0} → (T → Text) → Text → List ℕ → ℕ → List T → List (SpottedView T)
+abbrev pub spotted_each : {T : Type 0} → (T → Text) → Text → List ℕ → ℕ → List T
+    → List (SpottedView T)
 spotted_each name_of scope path index [] = []
 spotted_each name_of scope path index (x ∷ xs) =
     record { name = name_within scope (name_of x); path = path; index = index; what = x }

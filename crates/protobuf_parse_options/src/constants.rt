@@ -13,18 +13,18 @@ ghost use Rattle.protobuf_parse_options.specs.CustomOptions.{item_of, item_of_me
 ghost use Rattle.protobuf_parse_options.specs.Given.{bytes_of_items, field_faults_of};
 ghost use Rattle.protobuf_parse_options.specs.Given.{given_faults, given_field_bytes};
 ghost use Rattle.protobuf_parse_options.specs.Given.{given_field_items, value_bytes};
-ghost use Rattle.protobuf_parse_options.specs.Given.{option_place_view, path_said};
+ghost use Rattle.protobuf_parse_options.specs.Given.{option_scope_view, path_said};
 ghost use Rattle.protobuf_parse_options.specs.OptionFields.{type_takes, type_name_of};
 ghost use Rattle.protobuf_parse_options.specs.Refusals.{Gives};
 
 use crate::fields::{constant_field, type_name_of};
 use crate::lookup;
-use crate::option_place::OptionPlace;
 use crate::refuse::{OptionFailure, wrong};
 use crate::strings::bytes_given;
 use crate::values::{
     check_integer, check_number, check_truth, check_value_name, push_inside, push_item,
 };
+use crate::viewpoint::OptionViewpoint;
 use protobuf_parse_model::{ElabErrorKind, FieldDescriptorProto, FieldType};
 use protobuf_parse_syntax::{ConstantField, ProtobufConstant, ProtobufOptionNamePart, StrLit};
 use protobuf_parse_wire::EntryValue;
@@ -35,12 +35,12 @@ use std::alloc::Global;
 pub fn push_value(
     value: &ProtobufConstant,
     alloc: Global,
-    at: &OptionPlace<'_, '_>,
+    at: &OptionViewpoint<'_, '_>,
     option: &[ProtobufOptionNamePart],
     field: &FieldDescriptorProto,
     out: &mut Vec<u8>,
 ) -> Result<(), OptionFailure>
-    ensures { let s = option_place_view at.now in let f = field_view field.now in
+    ensures { let s = option_scope_view at.now in let f = field_view field.now in
         let c = constant_syntax value.now in
         Gives (λ u. out.new.items) result
         (constant_faults s (path_said option.now) f c)
@@ -92,13 +92,13 @@ fn push_truth(
 
 fn push_value_name(
     alloc: Global,
-    at: &OptionPlace<'_, '_>,
+    at: &OptionViewpoint<'_, '_>,
     option: &[ProtobufOptionNamePart],
     field: &FieldDescriptorProto,
     name: &str,
     out: &mut Vec<u8>,
 ) -> Result<(), OptionFailure>
-    ensures { let s = option_place_view at.now in let f = field_view field.now in
+    ensures { let s = option_scope_view at.now in let f = field_view field.now in
         let c = dotted name.now in
         Gives (λ u. out.new.items) result
         (constant_faults s (path_said option.now) f c)
@@ -136,12 +136,12 @@ fn push_string(
 fn push_list(
     items: &[ProtobufConstant],
     alloc: Global,
-    at: &OptionPlace<'_, '_>,
+    at: &OptionViewpoint<'_, '_>,
     option: &[ProtobufOptionNamePart],
     field: &FieldDescriptorProto,
     out: &mut Vec<u8>,
 ) -> Result<(), OptionFailure>
-    ensures { let s = option_place_view at.now in let f = field_view field.now in
+    ensures { let s = option_scope_view at.now in let f = field_view field.now in
         let cs = map constant_syntax items.now in
         Gives (λ u. out.new.items) result
         (flat_map (constant_faults s (path_said option.now) f) cs)
@@ -158,12 +158,12 @@ fn push_list(
 fn push_message(
     fields: &[ConstantField],
     alloc: Global,
-    at: &OptionPlace<'_, '_>,
+    at: &OptionViewpoint<'_, '_>,
     option: &[ProtobufOptionNamePart],
     field: &FieldDescriptorProto,
     out: &mut Vec<u8>,
 ) -> Result<(), OptionFailure>
-    ensures { let s = option_place_view at.now in let f = field_view field.now in
+    ensures { let s = option_scope_view at.now in let f = field_view field.now in
         let fs = map constant_field_syntax fields.now in
         Gives (λ u. out.new.items) result
         (message_value_faults f.name (type_takes f.type_)
@@ -191,12 +191,12 @@ fn push_message(
 fn push_fields(
     fields: &[ConstantField],
     alloc: Global,
-    at: &OptionPlace<'_, '_>,
+    at: &OptionViewpoint<'_, '_>,
     option: &[ProtobufOptionNamePart],
     message: &str,
     out: &mut Vec<u8>,
 ) -> Result<(), OptionFailure>
-    ensures { let s = option_place_view at.now in let fs = map constant_field_syntax fields.now in
+    ensures { let s = option_scope_view at.now in let fs = map constant_field_syntax fields.now in
         Gives (λ u. out.new.items) result
         (flat_map (field_faults_of s (path_said option.now) message.now) fs)
         (out.old.items ++ flat_map (given_field_bytes s message.now) fs) }
@@ -212,12 +212,12 @@ fn push_fields(
 fn push_field(
     field: &ConstantField,
     alloc: Global,
-    at: &OptionPlace<'_, '_>,
+    at: &OptionViewpoint<'_, '_>,
     option: &[ProtobufOptionNamePart],
     message: &str,
     out: &mut Vec<u8>,
 ) -> Result<(), OptionFailure>
-    ensures { let s = option_place_view at.now in let f = constant_field_syntax field.now in
+    ensures { let s = option_scope_view at.now in let f = constant_field_syntax field.now in
         Gives (λ u. out.new.items) result
         (field_faults_of s (path_said option.now) message.now f)
         (out.old.items ++ given_field_bytes s message.now f) }
@@ -232,12 +232,12 @@ fn push_field(
 pub fn push_given(
     value: &ProtobufConstant,
     alloc: Global,
-    at: &OptionPlace<'_, '_>,
+    at: &OptionViewpoint<'_, '_>,
     option: &[ProtobufOptionNamePart],
     field: &FieldDescriptorProto,
     out: &mut Vec<u8>,
 ) -> Result<(), OptionFailure>
-    ensures { let s = option_place_view at.now in let f = field_view field.now in
+    ensures { let s = option_scope_view at.now in let f = field_view field.now in
         let c = constant_syntax value.now in
         Gives (λ u. out.new.items) result
         (given_faults s (path_said option.now) c f)

@@ -7,7 +7,7 @@ ghost use Rattle.protobuf_parse_options.specs.CustomFaults.{bracketed, constant_
 ghost use Rattle.protobuf_parse_options.specs.CustomFaults.{extension_name_faults};
 ghost use Rattle.protobuf_parse_options.specs.CustomFaults.{field_name_faults};
 ghost use Rattle.protobuf_parse_options.specs.CustomFaults.{part_faults};
-ghost use Rattle.protobuf_parse_options.specs.Given.{option_place_view};
+ghost use Rattle.protobuf_parse_options.specs.Given.{option_scope_view};
 ghost use Rattle.protobuf_parse_options.specs.Holding.{files_seen};
 ghost use Rattle.protobuf_parse_options.specs.Views.{field_seen};
 ghost use Rattle.protobuf_parse_options.specs.OptionFields.{constant_field, extends_message};
@@ -16,8 +16,8 @@ ghost use Rattle.protobuf_parse_options.specs.OptionFields.{field_named, part_fi
 ghost use Rattle.protobuf_parse_options.specs.Refusals.{Gives};
 
 use crate::lookup;
-use crate::option_place::OptionPlace;
 use crate::refuse::{OptionFailure, wrong};
+use crate::viewpoint::OptionViewpoint;
 use protobuf_parse_model::{ElabErrorKind, FieldDescriptorProto};
 use protobuf_parse_syntax::{ConstantFieldName, ProtobufOptionNamePart};
 use std::alloc::{AllocError, Global};
@@ -35,11 +35,11 @@ pub fn type_name_of(field: &FieldDescriptorProto) -> &str
 /// The field of that name of the message. E17 where it has none.
 fn named_field<'a>(
     alloc: Global,
-    at: &OptionPlace<'_, 'a>,
+    at: &OptionViewpoint<'_, 'a>,
     message: &str,
     name: &str,
 ) -> Result<&'a FieldDescriptorProto, OptionFailure>
-    ensures { let s = option_place_view at.now in
+    ensures { let s = option_scope_view at.now in
         Gives (λ f. Some (field_seen f)) result (field_name_faults s message.now name.now)
         (field_named s.files message.now name.now) }
 {
@@ -53,11 +53,11 @@ fn named_field<'a>(
 /// no such message.
 fn named_extension<'a>(
     alloc: Global,
-    at: &OptionPlace<'_, 'a>,
+    at: &OptionViewpoint<'_, 'a>,
     message: &str,
     name: &str,
 ) -> Result<&'a FieldDescriptorProto, OptionFailure>
-    ensures { let s = option_place_view at.now in
+    ensures { let s = option_scope_view at.now in
         Gives (λ f. Some (field_seen f)) result
         (extension_name_faults s.files message.now name.now (extension_meant s name.now))
         (extension_named s message.now name.now) }
@@ -72,7 +72,11 @@ fn named_extension<'a>(
 }
 
 /// Whether the field extends the message of that full name.
-fn extends_message(at: &OptionPlace<'_, '_>, message: &str, field: &FieldDescriptorProto) -> bool
+fn extends_message(
+    at: &OptionViewpoint<'_, '_>,
+    message: &str,
+    field: &FieldDescriptorProto,
+) -> bool
     ensures { result ≡ extends_message (files_seen at.now.known.now.reach) message.now
         (field_view field.now) }
 {
@@ -85,11 +89,11 @@ fn extends_message(at: &OptionPlace<'_, '_>, message: &str, field: &FieldDescrip
 /// The field of the message that a part of an option's name means.
 pub fn part_field<'a>(
     alloc: Global,
-    at: &OptionPlace<'_, 'a>,
+    at: &OptionViewpoint<'_, 'a>,
     message: &str,
     part: &ProtobufOptionNamePart,
 ) -> Result<&'a FieldDescriptorProto, OptionFailure>
-    ensures { let s = option_place_view at.now in let p = option_part_syntax part.now in
+    ensures { let s = option_scope_view at.now in let p = option_part_syntax part.now in
         Gives (λ f. Some (field_seen f)) result (part_faults s message.now p)
         (part_field s message.now p) }
 {
@@ -102,11 +106,11 @@ pub fn part_field<'a>(
 /// The field of the message that a name in a constant for it means. E26 for a type URL.
 pub fn constant_field<'a>(
     alloc: Global,
-    at: &OptionPlace<'_, 'a>,
+    at: &OptionViewpoint<'_, 'a>,
     message: &str,
     name: &ConstantFieldName,
 ) -> Result<&'a FieldDescriptorProto, OptionFailure>
-    ensures { let s = option_place_view at.now in let n = constant_name_syntax name.now in
+    ensures { let s = option_scope_view at.now in let n = constant_name_syntax name.now in
         Gives (λ f. Some (field_seen f)) result (constant_name_faults s message.now n)
         (constant_field s message.now n) }
 {

@@ -12,10 +12,10 @@ ghost use Rattle.protobuf_parse_options.specs.OptionFields.{field_named, number_
 ghost use Rattle.protobuf_parse_options.specs.OptionLaw.{HasSmallValues};
 ghost use Rattle.protobuf_parse_options.specs.Spots.{extensions_inside, messages_inside};
 
-use crate::option_place::OptionPlace;
 use crate::spots::Spots;
 use crate::spots::picked::PickedFiles;
 use crate::statements::{are_several, bytes_of, options_message};
+use crate::viewpoint::OptionViewpoint;
 use protobuf_parse_model::{Construct, CustomOptions, ElabError};
 use protobuf_parse_syntax::ProtobufOption;
 use std::alloc::{AllocError, Global};
@@ -75,7 +75,7 @@ impl CustomOptions for KnownFiles<'_> {
             return Ok(Vec::new(alloc));
         }
         let message = options_message(construct);
-        let at = OptionPlace::new(self, scope, message, are_several(options));
+        let at = OptionViewpoint::new(self, scope, message, are_several(options));
         bytes_of(alloc, faults, &at, construct, options)
     }
 }

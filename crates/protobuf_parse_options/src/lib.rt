@@ -7,13 +7,13 @@ mod fields;
 mod known_files;
 mod laws;
 mod lookup;
-mod option_place;
 mod paths;
 mod refuse;
 mod spots;
 mod statements;
 mod strings;
 mod values;
+mod viewpoint;
 
 pub use custom_parts::has_custom_option;
 pub use known_files::KnownFiles;

@@ -8,16 +8,16 @@ ghost use Rattle.protobuf_parse_model.specs.Environment.{part_text};
 ghost use Rattle.protobuf_parse_model.specs.Faults.{Wrong};
 ghost use Rattle.protobuf_parse_options.specs.CustomFaults.{part_faults, path_faults, step_faults};
 ghost use Rattle.protobuf_parse_options.specs.CustomOptions.{path_items};
-ghost use Rattle.protobuf_parse_options.specs.Given.{bytes_of_items, option_place_view, path_said};
+ghost use Rattle.protobuf_parse_options.specs.Given.{bytes_of_items, option_scope_view, path_said};
 ghost use Rattle.protobuf_parse_options.specs.Given.{through_faults, through_items};
 ghost use Rattle.protobuf_parse_options.specs.OptionFields.{messages, part_field, type_takes};
 ghost use Rattle.protobuf_parse_options.specs.Refusals.{Gives, Refuses};
 
 use crate::constants::push_given;
 use crate::fields::{part_field, type_name_of};
-use crate::option_place::OptionPlace;
 use crate::refuse::{OptionFailure, wrong};
 use crate::values::{check_number, push_inside};
+use crate::viewpoint::OptionViewpoint;
 use protobuf_parse_model::{ElabErrorKind, FieldDescriptorProto, FieldType};
 use protobuf_parse_syntax::{ProtobufConstant, ProtobufOptionNamePart};
 use std::alloc::{AllocError, Global};
@@ -28,13 +28,13 @@ use std::alloc::{AllocError, Global};
 pub fn push_path(
     parts: &[ProtobufOptionNamePart],
     alloc: Global,
-    at: &OptionPlace<'_, '_>,
+    at: &OptionViewpoint<'_, '_>,
     option: &[ProtobufOptionNamePart],
     value: &ProtobufConstant,
     message: &str,
     out: &mut Vec<u8>,
 ) -> Result<(), OptionFailure>
-    ensures { let s = option_place_view at.now in let ps = map option_part_syntax parts.now in
+    ensures { let s = option_scope_view at.now in let ps = map option_part_syntax parts.now in
         let c = constant_syntax value.now in
         Gives (λ u. out.new.items) result
         (path_faults s (path_said option.now) c message.now ps)
@@ -56,13 +56,13 @@ fn push_first(
     others: &[ProtobufOptionNamePart],
     part: &ProtobufOptionNamePart,
     alloc: Global,
-    at: &OptionPlace<'_, '_>,
+    at: &OptionViewpoint<'_, '_>,
     option: &[ProtobufOptionNamePart],
     value: &ProtobufConstant,
     message: &str,
     out: &mut Vec<u8>,
 ) -> Result<(), OptionFailure>
-    ensures { let s = option_place_view at.now in let p = option_part_syntax part.now in
+    ensures { let s = option_scope_view at.now in let p = option_part_syntax part.now in
         let ps = map option_part_syntax others.now in let c = constant_syntax value.now in
         Gives (λ u. out.new.items) result
         (part_faults s message.now p ++ flat_map (through_faults s (path_said option.now) c p ps)
@@ -81,13 +81,13 @@ fn push_through(
     others: &[ProtobufOptionNamePart],
     part: &ProtobufOptionNamePart,
     alloc: Global,
-    at: &OptionPlace<'_, '_>,
+    at: &OptionViewpoint<'_, '_>,
     option: &[ProtobufOptionNamePart],
     value: &ProtobufConstant,
     field: &FieldDescriptorProto,
     out: &mut Vec<u8>,
 ) -> Result<(), OptionFailure>
-    ensures { let s = option_place_view at.now in let p = option_part_syntax part.now in
+    ensures { let s = option_scope_view at.now in let p = option_part_syntax part.now in
         let ps = map option_part_syntax others.now in let c = constant_syntax value.now in
         let f = field_view field.now in
         Gives (λ u. out.new.items) result
@@ -115,13 +115,13 @@ fn push_through(
 pub fn push_last(
     part: &ProtobufOptionNamePart,
     alloc: Global,
-    at: &OptionPlace<'_, '_>,
+    at: &OptionViewpoint<'_, '_>,
     option: &[ProtobufOptionNamePart],
     value: &ProtobufConstant,
     message: &str,
     out: &mut Vec<u8>,
 ) -> Result<(), OptionFailure>
-    ensures { let s = option_place_view at.now in let ps = option_part_syntax part.now ∷ [] in
+    ensures { let s = option_scope_view at.now in let ps = option_part_syntax part.now ∷ [] in
         let c = constant_syntax value.now in
         Gives (λ u. out.new.items) result
         (path_faults s (path_said option.now) c message.now ps)

@@ -13,13 +13,13 @@ ghost use Rattle.protobuf_parse_options.specs.CustomFaults.{option_faults_at};
 ghost use Rattle.protobuf_parse_options.specs.CustomOptions.{path_items};
 ghost use Rattle.protobuf_parse_options.specs.OptionBytes.{spelled_at};
 ghost use Rattle.protobuf_parse_options.specs.Given.{bytes_of_items, bytes_of_option};
-ghost use Rattle.protobuf_parse_options.specs.Given.{option_place_view};
+ghost use Rattle.protobuf_parse_options.specs.Given.{option_scope_view};
 ghost use Rattle.protobuf_parse_options.specs.OptionFields.{options_message};
 ghost use Rattle.protobuf_parse_options.specs.Refusals.{Gives, Refuses};
 
-use crate::option_place::OptionPlace;
 use crate::paths::push_path;
 use crate::refuse::{OptionFailure, wrong};
+use crate::viewpoint::OptionViewpoint;
 use protobuf_parse_elaboration::has_builtin_option;
 use protobuf_parse_model::{Construct, ElabError, ElabErrorKind};
 use protobuf_parse_syntax::{
@@ -32,13 +32,13 @@ use std::alloc::{AllocError, Global};
 pub fn bytes_of(
     alloc: Global,
     faults: &mut Vec<ElabError>,
-    at: &OptionPlace<'_, '_>,
+    at: &OptionViewpoint<'_, '_>,
     construct: Construct,
     options: &[&ProtobufOption],
 ) -> Result<Vec<u8>, AllocError>
-    ensures value { let s = option_place_view at.now in
+    ensures value { let s = option_scope_view at.now in
         IfOk result (λ v. v.items ≡ spelled_at s construct (options_seen options.now)) }
-    ensures faults { let s = option_place_view at.now in
+    ensures faults { let s = option_scope_view at.now in
         OnOk result (found faults.new ≡ found faults.old
         ++ custom_statement_faults s construct (options_seen options.now)) }
 {
@@ -55,15 +55,15 @@ pub fn bytes_of(
 fn push_options(
     alloc: Global,
     faults: &mut Vec<ElabError>,
-    at: &OptionPlace<'_, '_>,
+    at: &OptionViewpoint<'_, '_>,
     construct: Construct,
     options: &[&ProtobufOption],
     out: &mut Vec<u8>,
 ) -> Result<(), AllocError>
-    ensures value { let s = option_place_view at.now in let os = options_seen options.now in
+    ensures value { let s = option_scope_view at.now in let os = options_seen options.now in
         OnOk result (custom_statement_faults s construct os ≡ []
         → out.new.items ≡ out.old.items ++ flat_map (bytes_of_option s construct) os) }
-    ensures faults { let s = option_place_view at.now in
+    ensures faults { let s = option_scope_view at.now in
         OnOk result (found faults.new ≡ found faults.old
         ++ custom_statement_faults s construct (options_seen options.now)) }
 {
@@ -77,15 +77,15 @@ fn push_options(
 fn push_or_tell(
     alloc: Global,
     faults: &mut Vec<ElabError>,
-    at: &OptionPlace<'_, '_>,
+    at: &OptionViewpoint<'_, '_>,
     construct: Construct,
     option: &ProtobufOption,
     out: &mut Vec<u8>,
 ) -> Result<(), AllocError>
-    ensures value { let s = option_place_view at.now in let o = option_syntax option.now in
+    ensures value { let s = option_scope_view at.now in let o = option_syntax option.now in
         OnOk result (option_faults_at s construct o ≡ []
         → out.new.items ≡ out.old.items ++ bytes_of_option s construct o) }
-    ensures faults { let s = option_place_view at.now in
+    ensures faults { let s = option_scope_view at.now in
         OnOk result (found faults.new ≡ found faults.old
         ++ option_faults_at s construct (option_syntax option.now)) }
 {
@@ -105,12 +105,12 @@ fn push_or_tell(
 
 fn push_option(
     alloc: Global,
-    at: &OptionPlace<'_, '_>,
+    at: &OptionViewpoint<'_, '_>,
     construct: Construct,
     option: &ProtobufOption,
     out: &mut Vec<u8>,
 ) -> Result<(), OptionFailure>
-    ensures { let s = option_place_view at.now in let o = option_syntax option.now in
+    ensures { let s = option_scope_view at.now in let o = option_syntax option.now in
         Gives (λ u. out.new.items) result
         (custom_name_faults s construct o.value o.name)
         (out.old.items ++ bytes_of_option s construct o) }
@@ -125,13 +125,13 @@ fn push_option(
 
 fn push_custom(
     alloc: Global,
-    at: &OptionPlace<'_, '_>,
+    at: &OptionViewpoint<'_, '_>,
     construct: Construct,
     parts: &[ProtobufOptionNamePart],
     value: &ProtobufConstant,
     out: &mut Vec<u8>,
 ) -> Result<(), OptionFailure>
-    ensures { let s = option_place_view at.now in let ps = map option_part_syntax parts.now in
+    ensures { let s = option_scope_view at.now in let ps = map option_part_syntax parts.now in
         let c = constant_syntax value.now in
         Gives (λ u. out.new.items) result (custom_faults s construct c ps)
         (out.old.items ++ bytes_of_items (path_items s c (options_message construct) ps)) }

@@ -1,44 +1,22 @@
 //! The command that people type, over two writers in memory: what it writes to files, its words,
 //! and writers that fail.
 
+use crate::outcome::{Full, Outcome, own_path, words};
 use protobuf_parse::{Parser, RunFault};
 use protobuf_parse_command::command;
 use protobuf_parse_descriptor_set::descriptor_set;
 use protobuf_parse_diagnostics::{Diagnostic, Place, Severity, arrange};
 use std::alloc::{AllocError, Global};
-use std::io::{ErrorKind, Write};
+use std::fs;
 use std::process::Abort;
 use std::rt::Files;
 use std::test::Fail;
-use std::{fs, io, process};
-
-/// What a run of the command wrote, and its status.
-#[derive(Drop)]
-struct Outcome {
-    out: Vec<u8>,
-    err: Vec<u8>,
-    status: u8,
-}
-
-fn words(alloc: Global, args: &[&str]) -> Result<Vec<String>, AllocError> {
-    let mut words = Vec::new(alloc);
-    for arg in args {
-        words.push(String::from_str(alloc, arg)?)?;
-    }
-    Ok(words)
-}
 
 fn run<R: Files + AllocGlobal>(rt: &R, args: &[&str]) -> Result<Outcome, AllocError> {
     let mut out = Vec::new(rt.alloc());
     let mut err = Vec::new(rt.alloc());
     let status = command(rt, &words(rt.alloc(), args)?, &mut out, &mut err);
     Ok(Outcome { out, err, status })
-}
-
-/// A path for a file of this process alone, below the folder where the tests run.
-fn own_path(rt: &HostRuntime, name: &str) -> io::Result<String> {
-    let own = process::id(rt.process());
-    Ok(format!(in rt.alloc(); "protobuf_parse_{own}_{name}")?)
 }
 
 fn expect<R: Abort>(rt: &R, outcome: &Outcome, status: u8, out: &str, err: &str) {
@@ -212,27 +190,6 @@ fn tells_that_there_may_be_more(rt: HostRuntime) -> Result<(), Fail> {
     let last = b"\nthere may be more, in files that were not reached\n";
     assert!(rt; outcome.err.as_slice().ends_with(last));
     Ok(())
-}
-
-/// A writer that takes so many bytes and then fails.
-#[derive(Drop)]
-struct Full {
-    room: usize,
-}
-
-impl Write for Full {
-    fn write(&mut self, bytes: &[u8]) -> io::Result<usize> {
-        let taken = bytes.len().min(self.room);
-        if taken == 0 {
-            return Err(io::Error::from(ErrorKind::StorageFull));
-        }
-        self.room -= taken;
-        Ok(taken)
-    }
-
-    fn flush(&mut self) -> io::Result<()> {
-        Ok(())
-    }
 }
 
 /// A run whose output takes so many bytes and then fails.

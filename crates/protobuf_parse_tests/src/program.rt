@@ -1,40 +1,18 @@
 //! The program over two writers in memory, on files of a folder of its own.
 
+use crate::outcome::{Full, Outcome, own_path, words};
 use protobuf_parse::program;
-use std::alloc::{AllocError, Global};
-use std::io::{ErrorKind, Write};
+use std::alloc::AllocError;
 use std::process::Abort;
 use std::rt::Files;
 use std::test::Fail;
-use std::{fs, io, process};
-
-/// What a run of the program wrote, and its status.
-#[derive(Drop)]
-struct Outcome {
-    out: Vec<u8>,
-    err: Vec<u8>,
-    status: u8,
-}
-
-fn words(alloc: Global, args: &[&str]) -> Result<Vec<String>, AllocError> {
-    let mut words = Vec::new(alloc);
-    for arg in args {
-        words.push(String::from_str(alloc, arg)?)?;
-    }
-    Ok(words)
-}
+use std::{fs, io};
 
 fn run<R: Files + AllocGlobal>(rt: &R, args: &[&str]) -> Result<Outcome, AllocError> {
     let mut out = Vec::new(rt.alloc());
     let mut err = Vec::new(rt.alloc());
     let status = program(rt, &words(rt.alloc(), args)?, &mut out, &mut err);
     Ok(Outcome { out, err, status })
-}
-
-/// A path for a file of this process alone, below the folder where the tests run.
-fn own_path(rt: &HostRuntime, name: &str) -> io::Result<String> {
-    let own = process::id(rt.process());
-    Ok(format!(in rt.alloc(); "protobuf_parse_{own}_{name}")?)
 }
 
 /// A run on a file of this content, which is there for this run alone.
@@ -152,27 +130,6 @@ fn tells_what_is_wrong_with_imports(rt: HostRuntime) -> Result<(), Fail> {
     let line = format!(in rt.alloc(); "error in `{path}`: E3 NotFoundByRelPath: B\n")?;
     expect_failure(&rt, &outcome, &line);
     Ok(())
-}
-
-/// A writer that takes so many bytes and then fails.
-#[derive(Drop)]
-struct Full {
-    room: usize,
-}
-
-impl Write for Full {
-    fn write(&mut self, bytes: &[u8]) -> io::Result<usize> {
-        let taken = bytes.len().min(self.room);
-        if taken == 0 {
-            return Err(io::Error::from(ErrorKind::StorageFull));
-        }
-        self.room -= taken;
-        Ok(taken)
-    }
-
-    fn flush(&mut self) -> io::Result<()> {
-        Ok(())
-    }
 }
 
 #[test]

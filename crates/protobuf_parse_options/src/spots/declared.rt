@@ -136,7 +136,8 @@ pub fn enums_of<'a>(
     file: &'a FileDescriptorProto,
     messages: &[Spotted<&'a DescriptorProto>],
 ) -> Result<Vec<Spotted<&'a EnumDescriptorProto>>, AllocError>
-    ensures { IfOk result (λ v. messages_spotted messages.now ≡ spotted_messages (file_view file.now)
+    ensures { IfOk result (λ v. messages_spotted messages.now
+        ≡ spotted_messages (file_view file.now)
         → enums_spotted v.items ≡ spotted_enums (file_view file.now)) }
 {
     let mut list = Vec::new(alloc);
@@ -196,7 +197,8 @@ pub fn extensions_declared<'a>(
     file: &'a FileDescriptorProto,
     messages: &[Spotted<&'a DescriptorProto>],
 ) -> Result<Vec<Spotted<&'a FieldDescriptorProto>>, AllocError>
-    ensures { IfOk result (λ v. messages_spotted messages.now ≡ spotted_messages (file_view file.now)
+    ensures { IfOk result (λ v. messages_spotted messages.now
+        ≡ spotted_messages (file_view file.now)
         → extensions_spotted v.items ≡ spotted_extensions (file_view file.now)) }
 {
     let mut list = Vec::new(alloc);

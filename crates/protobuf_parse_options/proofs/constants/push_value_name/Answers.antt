@@ -7,7 +7,7 @@ use Rattle.protobuf_parse_model.specs.Descriptors.{field_view, Text}
 use Rattle.protobuf_parse_wire.specs.Trees as trees
 use Rattle.protobuf_parse_options.specs.CustomFaults.{value_name_faults}
 use Rattle.protobuf_parse_options.specs.CustomOptions.{item_of}
-use Rattle.protobuf_parse_options.specs.Given.{AreFit, option_place_view}
+use Rattle.protobuf_parse_options.specs.Given.{AreFit, option_scope_view}
 use Rattle.protobuf_parse_options.specs.OptionFields.{number_of_value, type_name_of, type_takes}
 use Rattle.protobuf_parse_options.proofs.ItemBytes.{number_seen}
 use Rattle.protobuf_parse_options.proofs.Writable.{value_fits}
@@ -16,7 +16,7 @@ use Rattle.protobuf_parse_options.proofs.constants.push_value_name.Goals as goal
 pub push_item-requires : goal.push_item-requires
 push_item-requires c =
     let f = field_view c.args.field.now in
-    let files = (option_place_view c.args.at.now).files in
+    let files = (option_scope_view c.args.at.now).files in
     let name = c.args.name.now in
     let z = c.in-Some.number in
     let known : number_of_value files (type_name_of f) name ≡ Some z =

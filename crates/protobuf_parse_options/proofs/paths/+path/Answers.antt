@@ -2,7 +2,7 @@ use Rattle.std.proofs.Common.{◌≡◌, ◌++◌, ◌∙◌, List, [], ap, map,
 use Rattle.protobuf_parse_syntax.specs.Trees.{constant_syntax, option_part_syntax}
 use Rattle.protobuf_parse_options.specs.CustomFaults.{path_faults}
 use Rattle.protobuf_parse_options.specs.CustomOptions.{path_items}
-use Rattle.protobuf_parse_options.specs.Given.{bytes_of_items, option_place_view, path_said}
+use Rattle.protobuf_parse_options.specs.Given.{bytes_of_items, option_scope_view, path_said}
 use Rattle.protobuf_parse_options.specs.OptionFields.{type_name_of}
 use Rattle.protobuf_parse_options.proofs.Parts.{no_step_fault, path_given}
 use Rattle.protobuf_parse_model.specs.Descriptors.{field_view, Text}
@@ -11,14 +11,14 @@ use Rattle.protobuf_parse_options.proofs.paths.+path.Goals as goal
 pub push_path-returns : goal.push_path-returns
 push_path-returns t c =
     path_given (λ u. c.push_first.new.out.items) c.push_first.result
-    (option_place_view c.args.at.now) (path_said c.args.option.now)
+    (option_scope_view c.args.at.now) (path_said c.args.option.now)
     (constant_syntax c.args.value.now) c.args.message.now c.args.parts.now c.part-item.result
     c.args.out.now.items c.part-item.is
     (sym c.is_empty.ensures ∙ c.if-is_empty.false) c.push_first.ensures
 
 pub push_through-returns : goal.push_through-returns
 push_through-returns t c =
-    let s = option_place_view c.args.at.now in
+    let s = option_scope_view c.args.at.now in
     let f = field_view c.args.field.now in
     let ps = map option_part_syntax c.args.others.now in
     let value = constant_syntax c.args.value.now in

@@ -2,14 +2,14 @@ use Rattle.std.proofs.Common.{◌∙◌, ◌++◌, List, ℕ, ap, flat_map, sym}
 use Rattle.protobuf_parse_model.specs.BuiltinOptions.{options_seen}
 use Rattle.protobuf_parse_options.specs.CustomFaults.{custom_statement_faults}
 use Rattle.protobuf_parse_options.specs.CustomOptions.{items_of_option}
-use Rattle.protobuf_parse_options.specs.Given.{bytes_of_option, option_place_view}
+use Rattle.protobuf_parse_options.specs.Given.{bytes_of_option, option_scope_view}
 use Rattle.protobuf_parse_options.proofs.ItemBytes.{bytes_flat_map}
 use Rattle.protobuf_parse_options.proofs.Refusing.{none_more, unless_none}
 use Rattle.protobuf_parse_options.proofs.statements.bytes_of.Goals as goal
 
 pub returns-clause-value : goal.returns-clause-value
 returns-clause-value c =
-    let s = option_place_view c.args.at.now in
+    let s = option_scope_view c.args.at.now in
     let os = options_seen c.args.options.now in
     let all = flat_map (bytes_of_option s c.args.construct) os in
     let faults = custom_statement_faults s c.args.construct os in

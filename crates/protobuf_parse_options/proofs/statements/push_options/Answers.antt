@@ -4,13 +4,13 @@ use Rattle.protobuf_parse_syntax.specs.Trees.{option_syntax}
 use Rattle.protobuf_parse_model.specs.BuiltinOptions.{options_seen}
 use Rattle.protobuf_parse_model.specs.Faults.{found}
 use Rattle.protobuf_parse_options.specs.CustomFaults.{option_faults_at}
-use Rattle.protobuf_parse_options.specs.Given.{bytes_of_option, option_place_view}
+use Rattle.protobuf_parse_options.specs.Given.{bytes_of_option, option_scope_view}
 use Rattle.protobuf_parse_options.proofs.Refusing.{bytes_more, seen_more, told_more}
 use Rattle.protobuf_parse_options.proofs.statements.push_options.Goals as goal
 
 pub options-preserved : goal.options-preserved
 options-preserved c =
-    let s = option_place_view c.args.at.now in
+    let s = option_scope_view c.args.at.now in
     let os = c.args.options.now in
     let k = c.options.option-index in
     let o = option_syntax c.option-item.result.now in

@@ -1,7 +1,7 @@
 use Rattle.std.proofs.Common.{◌∙◌, ◌++◌, Err, ap}
 use Rattle.protobuf_parse_syntax.specs.Trees.{option_syntax}
 use Rattle.protobuf_parse_options.specs.CustomFaults.{custom_name_faults}
-use Rattle.protobuf_parse_options.specs.Given.{bytes_of_option, option_place_view}
+use Rattle.protobuf_parse_options.specs.Given.{bytes_of_option, option_scope_view}
 use Rattle.protobuf_parse_options.specs.Refusals.{wrong_view}
 use Rattle.protobuf_parse_options.proofs.Refusing.{gave_first, told_first, untold}
 use Rattle.protobuf_parse_options.proofs.statements.push_or_tell.Goals as goal
@@ -9,7 +9,7 @@ use Rattle.protobuf_parse_options.proofs.statements.push_or_tell.Goals as goal
 pub returns-in_ok-push-in-Err-Wrong-clause-value :
     goal.returns-in_ok-push-in-Err-Wrong-clause-value
 returns-in_ok-push-in-Err-Wrong-clause-value c none =
-    let s = option_place_view c.args.at.now in
+    let s = option_scope_view c.args.at.now in
     let o = option_syntax c.args.option.now in
     let ws = custom_name_faults s c.args.construct o.value o.name in
     absurd (untold o.place ws (wrong_view c.in-Err-Wrong.error)
@@ -20,7 +20,7 @@ returns-in_ok-push-in-Err-Wrong-clause-value c none =
 pub returns-in_ok-push-in-Err-Wrong-clause-faults :
     goal.returns-in_ok-push-in-Err-Wrong-clause-faults
 returns-in_ok-push-in-Err-Wrong-clause-faults c =
-    let s = option_place_view c.args.at.now in
+    let s = option_scope_view c.args.at.now in
     let o = option_syntax c.args.option.now in
     let ws = custom_name_faults s c.args.construct o.value o.name in
     told_first c.args.faults.now.items c.push.new.self.items c.in-Err-Wrong.error o.place ws

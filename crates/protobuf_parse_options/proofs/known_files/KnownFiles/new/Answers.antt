@@ -14,7 +14,8 @@ use Rattle.protobuf_parse_options.specs.Spots.{spotted_messages}
 use Rattle.protobuf_parse_options.specs.Positions.{extension_parts, field_names, value_names}
 use Rattle.protobuf_parse_options.proofs.ByName.{values_named}
 use Rattle.protobuf_parse_options.proofs.Holding.{all_named, parts_named, seen_is, stands_there}
-use Rattle.protobuf_parse_options.proofs.Spotting.{enums_without, extensions_without, messages_stand}
+use Rattle.protobuf_parse_options.proofs.Spotting.{enums_without, extensions_without}
+use Rattle.protobuf_parse_options.proofs.Spotting.{messages_stand}
 use Rattle.protobuf_parse_options.proofs.Spotting.{placed_stand}
 use Rattle.protobuf_parse_options.proofs.Positioning.{all_told, fields_found, numbers_found}
 use Rattle.protobuf_parse_options.proofs.SmallValues.{picked_small}

@@ -35,7 +35,8 @@ add_message-returns t c =
     on_ok_weaker c.add_messages.result
     (λ nested. message_listed scope name path index m old
     (messages_spotted c.add_messages.new.list.items) named
-    (nested ∙ ap (λ (ds : List (SpottedView MessageDescriptor)). ds ++ spotted_list c.deref-3.result.now
+    (nested ∙ ap (λ (ds : List (SpottedView MessageDescriptor)). ds
+    ++ spotted_list c.deref-3.result.now
     c.deref-4.result.now 0 (map message_view c.deref-5.result.now)) pushed
     ∙ ap (λ (s : Text). (old ++ head name path index m) ++ spotted_list s c.deref-4.result.now 0
     (map message_view c.deref-5.result.now)) c.deref-3.ensures

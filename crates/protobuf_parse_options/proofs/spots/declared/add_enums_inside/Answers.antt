@@ -17,10 +17,12 @@ returns c =
     ∙ ap (λ (p : List ℕ). p ++ k.index ∷ []) c.deref.ensures.value in
     let members = sym (ap enums_inside (inside_is k.what.now)) in
     on_ok_weaker c.add_enums.result
-    (λ e. e ∙ ap (λ (ps : List (SpottedView EnumDescriptor)). enums_spotted c.args.list.now.items ++ ps)
+    (λ e. e ∙ ap (λ (ps : List (SpottedView EnumDescriptor)). enums_spotted c.args.list.now.items
+    ++ ps)
     (ap (λ (s : Text). spotted_each enum_name s c.deref-3.result.now 0
     (map enum_view c.deref-4.result.now)) c.deref-2.ensures
-    ∙ ap (λ (p : List ℕ). spotted_each enum_name name p 0 (map enum_view c.deref-4.result.now)) paths
+    ∙ ap (λ (p : List ℕ). spotted_each enum_name name p 0
+    (map enum_view c.deref-4.result.now)) paths
     ∙ ap (λ (xs : List EnumDescriptorProto). spotted_each enum_name name path 0 (map enum_view xs))
     c.deref-4.ensures.value
     ∙ ap (λ (xs : List EnumDescriptor). spotted_each enum_name name path 0 xs) members

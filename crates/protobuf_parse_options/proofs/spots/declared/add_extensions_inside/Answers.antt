@@ -4,7 +4,8 @@ use Rattle.std.proofs.lemmas.Result.{on_ok_weaker}
 use Rattle.protobuf_parse_model.specs.declared.descriptor.FieldDescriptorProto.{FieldDescriptorProto}
 use Rattle.protobuf_parse_model.specs.Descriptors.{Text, FieldDescriptor, field_view}
 use Rattle.protobuf_parse_options.specs.Holding.{extensions_spotted}
-use Rattle.protobuf_parse_options.specs.Spots.{SpottedView, field_name, extensions_inside, spotted_each}
+use Rattle.protobuf_parse_options.specs.Spots.{SpottedView, field_name, extensions_inside}
+use Rattle.protobuf_parse_options.specs.Spots.{spotted_each}
 use Rattle.protobuf_parse_options.proofs.Spotting.{inside_is}
 use Rattle.protobuf_parse_options.proofs.spots.declared.add_extensions_inside.Goals as goal
 
@@ -17,7 +18,8 @@ returns c =
     ∙ ap (λ (p : List ℕ). p ++ k.index ∷ []) c.deref.ensures.value in
     let members = sym (ap extensions_inside (inside_is k.what.now)) in
     on_ok_weaker c.add_extensions.result
-    (λ e. e ∙ ap (λ (ps : List (SpottedView FieldDescriptor)). extensions_spotted c.args.list.now.items
+    (λ e. e ∙ ap (λ (ps : List
+    (SpottedView FieldDescriptor)). extensions_spotted c.args.list.now.items
     ++ ps)
     (ap (λ (s : Text). spotted_each field_name s c.deref-3.result.now 0
     (map field_view c.deref-4.result.now)) c.deref-2.ensures

@@ -10,7 +10,7 @@ use crate::lookup;
 
 /// From where options are seen.
 #[derive(Clone, Copy)]
-pub struct OptionPlace<'p, 'a> {
+pub struct OptionViewpoint<'p, 'a> {
     pub known: &'p KnownFiles<'a>,
     /// The names of the package and of the messages around the construct, the outermost first.
     pub scope: &'p [&'p str],
@@ -20,7 +20,7 @@ pub struct OptionPlace<'p, 'a> {
         (λ name. names_message (files_seen known.now.reach) name.now ≡ true) },
 }
 
-impl<'p, 'a> OptionPlace<'p, 'a> {
+impl<'p, 'a> OptionViewpoint<'p, 'a> {
     /// Where options of the message of that full name are set. It is looked up now if there are
     /// several of them, each of which asks for it.
     pub fn new(
@@ -28,7 +28,7 @@ impl<'p, 'a> OptionPlace<'p, 'a> {
         scope: &'p [&'p str],
         message: &'p str,
         several: bool,
-    ) -> OptionPlace<'p, 'a>
+    ) -> OptionViewpoint<'p, 'a>
         ensures known { result.known.now ≡ known.now }
         ensures scope { result.scope.now ≡ scope.now }
     {
@@ -37,7 +37,7 @@ impl<'p, 'a> OptionPlace<'p, 'a> {
         } else {
             None
         };
-        OptionPlace {
+        OptionViewpoint {
             known,
             scope,
             found,
