@@ -21,7 +21,7 @@ use Rattle.protobuf_parse_model.specs.Options.{field_options_view, message_optio
 use Rattle.protobuf_parse_model.specs.OptionMessages.{field_options, message_options}
 use Rattle.protobuf_parse_model.specs.declared.customs.Construct.TheVariants as of
 use Rattle.protobuf_parse_model.specs.Environment.{Environment, customs_bytes}
-use Rattle.protobuf_parse_elaboration.specs.declared.constructs.place.FieldOwner.{FieldOwner}
+use Rattle.protobuf_parse_elaboration.specs.declared.constructs.owner.FieldOwner.{FieldOwner}
 use Rattle.protobuf_parse_elaboration.specs.Fields as fields
 use Rattle.protobuf_parse_elaboration.specs.declared.constructs.field.FieldSaid.{FieldSaid}
 use Rattle.protobuf_parse_elaboration.specs.declared.constructs.statement.DeclaredField.{DeclaredField}

@@ -18,9 +18,9 @@ ghost use Rattle.protobuf_parse_elaboration.specs.Services as services;
 ghost use Rattle.protobuf_parse_elaboration.specs.Viewpoints.{seen_from};
 ghost use Rattle.protobuf_parse_elaboration.specs.Telling.{Tells};
 
-use crate::constructs::declared::DeclaredAs;
+use crate::constructs::declared::{DeclaredAs, places_of};
 use crate::constructs::options::{custom_bytes, method_options, options_in, service_options};
-use crate::constructs::told::tell_names;
+use crate::constructs::told::tell_repeated;
 use crate::constructs::types::type_full_name;
 use crate::constructs::viewpoint::Viewpoint;
 use protobuf_parse_lexer::Place;
@@ -85,15 +85,8 @@ fn tell_method_names<C: CustomOptions>(
     ensures { Tells result faults.old faults.new
         (duplicates (map services.method_named (methods_seen methods.now))) }
 {
-    let syntax = at.context.syntax;
-    tell_names(
-        at.alloc,
-        faults,
-        DeclaredAs::Other,
-        syntax,
-        methods,
-        methods,
-    )
+    let places = places_of(at.alloc, DeclaredAs::Other, at.context.syntax, methods)?;
+    tell_repeated(at.alloc, faults, methods, &places)
 }
 
 /// The methods of a service.
