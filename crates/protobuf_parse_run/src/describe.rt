@@ -24,7 +24,7 @@ use protobuf_parse_elaboration::{elaborate, elaborate_all, elaborate_all_owned, 
 use protobuf_parse_model::{
     ElabError, ElabFailure, FileDescriptorProto, Seen, WithoutCustoms, link,
 };
-use protobuf_parse_options::{Spots, KnownFiles, PickedFiles, has_custom_option};
+use protobuf_parse_options::{KnownFiles, PickedFiles, Spots, has_custom_option};
 use protobuf_parse_syntax::FileTree;
 use std::alloc::{AllocError, Global};
 
@@ -109,16 +109,7 @@ pub fn checked(
     let plain = elaborate_all(alloc, &mut faults, path, &tree, &seen, &WithoutCustoms)?;
     let faulty = !faults.is_empty();
     let spots = &mut tables.spots;
-    tell_further(
-        alloc,
-        &mut faults,
-        loaded,
-        spots,
-        &seen,
-        &plain,
-        path,
-        tree,
-    )?;
+    tell_further(alloc, &mut faults, loaded, spots, &seen, &plain, path, tree)?;
     Ok(Described {
         descriptor: plain,
         faults,

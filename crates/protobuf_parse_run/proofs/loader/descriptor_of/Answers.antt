@@ -17,7 +17,7 @@ returns-in-Err-Fault-clause-err c files told e found named =
     let t = file_syntax c.args.tree in
     let sight = c.args.sights.now.sight.items in
     let descriptors =
-        descriptors_over c.args.loader.now.loaded.entries files sight c.args.path.now t in
+    descriptors_over c.args.loader.now.loaded.entries files sight c.args.path.now t in
     elab-stands (origin_given c.args.path.now (Some e.outcome))
     (ending_over c.args.gathers files descriptors c.args.sights.now.reach.items sight t)
     (fault_view c.in-Err-Fault.error) c.refused.result

@@ -9,7 +9,7 @@ pub returns-in_ok-add-clause-begins : goal.returns-in_ok-add-clause-begins
 returns-in_ok-add-clause-begins c =
     let loaded = c.args.loaded.now.entries in
     let n = c.args.spots.now.files in
-    let d = described.file_view c.in-Some.file.descriptor in
+    let d = described.file_view c.in-Some.field-0.now.1.descriptor in
     let entry = rw c.in-Some.is at c.at.ensures in
     let at : slice_get (map descriptor_in loaded) n ≡ Some d = slice_get-map descriptor_in loaded n
     ∙ ap (option_map descriptor_in) (sym entry) in
