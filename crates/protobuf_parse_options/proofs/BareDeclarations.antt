@@ -19,7 +19,7 @@ use Rattle.protobuf_parse_options.specs.WithoutOptions.{bare_message, bare_messa
 
 -- ---- lists of which each element becomes another
 
-both-become : {A B : Type 0} (g : A → B) (xs ys : List A) (vs ws : List B) → vs ≡ map g xs
+pub both-become : {A B : Type 0} (g : A → B) (xs ys : List A) (vs ws : List B) → vs ≡ map g xs
     → ws ≡ map g ys → vs ++ ws ≡ map g (xs ++ ys)
 both-become g xs ys vs ws e h = ap (λ zs. zs ++ ws) e ∙ ap (λ zs. map g xs ++ zs) h
     ∙ sym (map-append g xs ys)
@@ -185,7 +185,7 @@ enums-within-bare scope es =
 abbrev enums_inside : Declaration → List (Declared EnumDescriptor)
 enums_inside d = map (enum_in d.name) d.parts.enum_type
 
-enums-bare : (file : FileDescriptor)
+pub enums-bare : (file : FileDescriptor)
     → declared_enums (bare_file file) ≡ map bare_declared_enum (declared_enums file)
 enums-bare file =
     let scope = package_scope file.«package» in

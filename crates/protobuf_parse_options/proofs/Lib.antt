@@ -19,6 +19,7 @@ pub mod BareDeclarations
 pub mod BareNumbers
 pub mod BareReading
 pub mod BareFiles
+pub mod BareSpots
 pub mod AlikeLookups
 pub mod BareLookups
 pub mod WithoutOptions

@@ -112,13 +112,13 @@ pub picked_small : (fs : List FileDescriptor) (ns : List ℕ) → AllByRecursion
 picked_small fs ns h = small_values (picked fs ns) (flat_map declared_enums (picked fs ns)) refl
     (small_files (picked fs ns) (small_picked fs ns h))
 
-spotted_without : (ks : List (Spotted (Bor EnumDescriptorProto)))
+known_without : (ks : List (Spotted (Bor EnumDescriptorProto)))
     → map enum_declared ks ≡ map declared_of (enums_spotted ks)
-spotted_without [] = refl
-spotted_without (k ∷ ks) = ap (λ es. enum_declared k ∷ es) (spotted_without ks)
+known_without [] = refl
+known_without (k ∷ ks) = ap (λ es. enum_declared k ∷ es) (known_without ks)
 
 -- of a file whose enums were listed
 pub small_file : (f : FileDescriptor) (ks : List (Spotted (Bor EnumDescriptorProto)))
     → enums_spotted ks ≡ spotted_enums f → HaveSmall (map enum_declared ks) → IsSmallFile f
-small_file f ks is small = subst HaveSmall (spotted_without ks ∙ ap (map declared_of) is
+small_file f ks is small = subst HaveSmall (known_without ks ∙ ap (map declared_of) is
     ∙ enums_without f) small

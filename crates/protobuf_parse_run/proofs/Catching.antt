@@ -4,31 +4,33 @@ use Rattle.std.proofs.Common.{option_map, Some, refl, sym, ap, ◌∙◌, arith,
 use Rattle.std.proofs.Common.{subst, slice_get, length-append, flat_map}
 use Rattle.std.specs.Borrow.{Bor}
 use Rattle.std.specs.Prelude.{option_to_list}
-use Rattle.std.proofs.lemmas.List.{map-append}
+use Rattle.std.proofs.lemmas.List.{length-map, map-append}
 use Rattle.protobuf_parse_model.specs.Descriptors.{FileDescriptor}
 use Rattle.protobuf_parse_model.specs.declared.descriptor.FileDescriptorProto.{FileDescriptorProto}
 use Rattle.protobuf_parse_options.specs.Holding.{Holds}
-use Rattle.protobuf_parse_run.specs.Loading.{IndexBegins, LoadedEntry, IsWhole, picked_plains}
-use Rattle.protobuf_parse_run.specs.Loading.{plain_in, plain_seen, plains_with}
+use Rattle.protobuf_parse_options.specs.WithoutOptions.{bare_file, DifferOnlyInOptions}
+use Rattle.protobuf_parse_options.proofs.BareSpots.{holds-alike}
+use Rattle.protobuf_parse_run.specs.Loading.{IndexBegins, LoadedEntry, IsWhole, picked_descriptors}
+use Rattle.protobuf_parse_run.specs.Loading.{descriptor_in, descriptor_seen, descriptors_with}
 use Rattle.protobuf_parse_run.specs.declared.tables.RunSpots.{RunSpots}
 
 -- the descriptors that the code's list has
 abbrev pub listed : List (Option (Bor FileDescriptorProto)) → List FileDescriptor
-listed fs = flat_map option_to_list (map (option_map plain_seen) fs)
+listed fs = flat_map option_to_list (map (option_map descriptor_seen) fs)
 
-pub whole-begins : (spots : RunSpots) (plains : List FileDescriptor) → IsWhole spots plains
-    → IndexBegins spots plains
-whole-begins spots plains whole = record {
-  front = plains;
+pub whole-begins : (spots : RunSpots) (descriptors : List FileDescriptor)
+    → IsWhole spots descriptors → IndexBegins spots descriptors
+whole-begins spots descriptors whole = record {
+  front = descriptors;
   rest = [];
-  split = sym (append-nil plains);
+  split = sym (append-nil descriptors);
   whole = whole;
 }
 
 -- a file more that isn't in it
-pub begins-more : (spots : RunSpots) (plains : List FileDescriptor) (d : FileDescriptor)
-    → IndexBegins spots plains → IndexBegins spots (plains ++ d ∷ [])
-begins-more spots plains d b = record {
+pub begins-more : (spots : RunSpots) (descriptors : List FileDescriptor) (d : FileDescriptor)
+    → IndexBegins spots descriptors → IndexBegins spots (descriptors ++ d ∷ [])
+begins-more spots descriptors d b = record {
   front = b.front;
   rest = b.rest ++ d ∷ [];
   split = ap (λ ps. ps ++ d ∷ []) b.split ∙ append_assoc b.front b.rest (d ∷ []);
@@ -46,12 +48,12 @@ first-of [] x e = absurd cc
 first-of (y ∷ rest) x e = let same : y ≡ x = cc in (rest, ap (λ z. z ∷ rest) same)
 
 -- the next of the files
-pub begins-next : (old new : RunSpots) (plains : List FileDescriptor) (d : FileDescriptor)
-    (b : IndexBegins old plains) → slice_get plains old.files ≡ Some d
+pub begins-next : (old new : RunSpots) (descriptors : List FileDescriptor) (d : FileDescriptor)
+    (b : IndexBegins old descriptors) → slice_get descriptors old.files ≡ Some d
     → ((files : List FileDescriptor) → length files ≡ old.files → Holds old.declared files
     → Holds new.declared (files ++ d ∷ []))
-    → new.files ≡ old.files + 1 → IndexBegins new plains
-begins-next old new plains d b at adds count =
+    → new.files ≡ old.files + 1 → IndexBegins new descriptors
+begins-next old new descriptors d b at adds count =
     let whole = b.whole in
     let here : slice_get b.rest 0 ≡ Some d = sym (at-end b.front b.rest)
     ∙ ap (slice_get (b.front ++ b.rest)) whole.count
@@ -72,36 +74,56 @@ none-left [] e = refl
 none-left (x ∷ rest) e = absurd (omega (arith, e))
 
 -- an index that counts as many files as there are has them all
-pub whole-at : (spots : RunSpots) (plains : List FileDescriptor) → IndexBegins spots plains
-    → length plains ≤ spots.files → IsWhole spots plains
-whole-at spots plains b le =
+pub whole-at : (spots : RunSpots) (descriptors : List FileDescriptor)
+    → IndexBegins spots descriptors → length descriptors ≤ spots.files
+    → IsWhole spots descriptors
+whole-at spots descriptors b le =
     let whole = b.whole in
     let count = whole.count in
     let lengths = ap length b.split ∙ length-append b.front b.rest in
     let none : b.rest ≡ [] = none-left b.rest (omega (arith, le, count, lengths)) in
-    let same : b.front ≡ plains = sym (b.split ∙ ap (λ r. b.front ++ r) none
+    let same : b.front ≡ descriptors = sym (b.split ∙ ap (λ r. b.front ++ r) none
     ∙ append-nil b.front) in
     subst (λ (ps : List FileDescriptor). IsWhole spots ps) same whole
 
-pub next-whole : (old new : RunSpots) (plains : List FileDescriptor) (d : FileDescriptor) (n : ℕ)
-    → IndexBegins old plains → length plains ≤ old.files → length plains ≡ n
+pub next-whole : (old new : RunSpots) (descriptors : List FileDescriptor) (d : FileDescriptor)
+    (n : ℕ) → IndexBegins old descriptors → length descriptors ≤ old.files
+    → length descriptors ≡ n
     → ((files : List FileDescriptor) → length files ≡ n → Holds old.declared files
     → Holds new.declared (files ++ d ∷ []))
-    → new.files ≡ n + 1 → IsWhole new (plains ++ d ∷ [])
-next-whole old new plains d n b le len adds count =
-    let whole = whole-at old plains b le in
+    → new.files ≡ n + 1 → IsWhole new (descriptors ++ d ∷ [])
+next-whole old new descriptors d n b le len adds count =
+    let whole = whole-at old descriptors b le in
     record {
-      holds = adds plains len whole.holds;
-      count = length-append plains (d ∷ []) ∙ ap (λ k. k + 1) len ∙ sym count;
+      holds = adds descriptors len whole.holds;
+      count = length-append descriptors (d ∷ []) ∙ ap (λ k. k + 1) len ∙ sym count;
     }
 
 -- the descriptors of the loaded files, with one more
 pub plains-push : (loaded : List LoadedEntry) (x : LoadedEntry)
-    → plains_with loaded (plain_in x) ≡ map plain_in (loaded ++ x ∷ [])
-plains-push loaded x = sym (map-append plain_in loaded (x ∷ []))
+    → descriptors_with loaded (descriptor_in x) ≡ map descriptor_in (loaded ++ x ∷ [])
+plains-push loaded x = sym (map-append descriptor_in loaded (x ∷ []))
 
-pub picked-seen : (plains : List FileDescriptor) (ns : List ℕ)
-    → flat_map option_to_list (map (slice_get plains) ns) ≡ picked_plains plains ns
-picked-seen plains [] = refl
-picked-seen plains (n ∷ ns) = ap (λ ds. option_to_list (slice_get plains n) ++ ds)
-    (picked-seen plains ns)
+-- the next one, but for options
+pub next-alike : (loaded : List LoadedEntry) (d e : FileDescriptor) → bare_file d ≡ bare_file e
+    → DifferOnlyInOptions (descriptors_with loaded d) (descriptors_with loaded e)
+next-alike loaded d e same =
+    let files = map descriptor_in loaded in
+    map-append bare_file files (d ∷ [])
+    ∙ ap (λ b. map bare_file files ++ b ∷ []) same
+    ∙ sym (map-append bare_file files (e ∷ []))
+
+-- an index of files has those that are the same but for options
+pub whole-alike : (spots : RunSpots) (ds es : List FileDescriptor) → DifferOnlyInOptions ds es
+    → IsWhole spots ds → IsWhole spots es
+whole-alike spots ds es same whole = record {
+  holds = holds-alike spots.declared ds es same whole.holds;
+  count = sym (length-map es bare_file) ∙ ap length (sym same) ∙ length-map ds bare_file
+      ∙ whole.count;
+}
+
+pub picked-seen : (descriptors : List FileDescriptor) (ns : List ℕ)
+    → flat_map option_to_list (map (slice_get descriptors) ns) ≡ picked_descriptors descriptors ns
+picked-seen descriptors [] = refl
+picked-seen descriptors (n ∷ ns) = ap (λ ds. option_to_list (slice_get descriptors n) ++ ds)
+    (picked-seen descriptors ns)

@@ -19,7 +19,8 @@ use Rattle.protobuf_parse_run.specs.Loading.{AreNumbersOf}
 use Rattle.protobuf_parse_run.specs.Loading.{AreUnloaded, IndexBegins, LoadedEntry, Grows}
 use Rattle.protobuf_parse_run.specs.Loading.{IsAddedOver}
 use Rattle.protobuf_parse_run.specs.Loading.{IsMetAt}
-use Rattle.protobuf_parse_run.specs.Loading.{Named, file_at, held, named_trees, paths_in, plain_in}
+use Rattle.protobuf_parse_run.specs.Loading.{Named, file_at, held, named_trees, paths_in}
+use Rattle.protobuf_parse_run.specs.Loading.{descriptor_in}
 use Rattle.protobuf_parse_run.specs.Loading.{read_paths, tree_in, trees_of, with_next}
 use Rattle.protobuf_parse_run.specs.declared.loader.LoadedAs.{LoadedAs}
 use Rattle.protobuf_parse_run.specs.declared.log.ReadEntry.{ReadEntry}
@@ -267,7 +268,8 @@ module _ (gathers : Bool) (path : Text) (tree : FileSyntax) (height read : ℕ)
   pub known-push : AreKnown new after log
   known-push = rw a.entries (record {
     tells = subst (TableTells after.names) (sym trees-are) a.tells;
-    begins = subst (λ (es : List LoadedEntry). IndexBegins after.spots (map plain_in es)) a.entries
+    begins = subst (λ (es : List LoadedEntry). IndexBegins after.spots (map descriptor_in es))
+        a.entries
         a.begins;
     once = subst AreDistinct (sym paths-are) (once-push old path tree known.once none);
     reach = all-hold-push Reaches held_as.Reach old x known.reach

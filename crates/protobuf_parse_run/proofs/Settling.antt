@@ -26,7 +26,9 @@ use Rattle.protobuf_parse_elaboration.specs.FilesByPath.{AreDistinct, AreJust, l
 use Rattle.protobuf_parse_elaboration.specs.FilesByPath.{trees_at}
 use Rattle.protobuf_parse_elaboration.proofs.Orders.{SameMembers, just-same, link-none, link-told}
 use Rattle.protobuf_parse_elaboration.proofs.Orders.{types-same}
-use Rattle.protobuf_parse_options.specs.OptionBytes.{known_customs}
+use Rattle.protobuf_parse_options.specs.WithoutOptions.{bare_file, DifferOnlyInOptions}
+use Rattle.protobuf_parse_options.proofs.BareDeclarations.{both-become}
+use Rattle.protobuf_parse_options.proofs.WithoutOptions.{customs_ignore_options}
 use Rattle.protobuf_parse_run.specs.Walks.{Trees, Reaches, HandsOn, Sees, sees_itself, by_import}
 use Rattle.protobuf_parse_run.specs.Walks.{among, import_paths}
 use Rattle.protobuf_parse_run.specs.Run.{Files, FilesAreListed, StandsInElab, customs_of}
@@ -38,8 +40,9 @@ use Rattle.protobuf_parse_run.specs.Loading.{AreNumbersOf, LoadedEntry, IsLoaded
 use Rattle.protobuf_parse_run.specs.Loading.{Settles, SettlesOver, any_faulty, customs_over}
 use Rattle.protobuf_parse_run.specs.Loading.{ending_over, faults_over, file_at, has_faults}
 use Rattle.protobuf_parse_run.specs.Loading.{own_over, report_over, file_over, named_trees}
-use Rattle.protobuf_parse_run.specs.Loading.{paths_in, picked_plains, plain_in, plain_over}
-use Rattle.protobuf_parse_run.specs.Loading.{plains_next, tree_in, trees_of, with_next}
+use Rattle.protobuf_parse_run.specs.Loading.{paths_in, picked_descriptors, descriptor_in}
+use Rattle.protobuf_parse_run.specs.Loading.{plain_over, descriptors_next, tree_in, trees_of}
+use Rattle.protobuf_parse_run.specs.Loading.{with_next}
 use Rattle.protobuf_parse_run.specs.declared.fault.RunFault.{RunFault}
 use Rattle.protobuf_parse_run.specs.declared.fault.RunFault.TheVariants as fault
 use Rattle.protobuf_parse_run.specs.declared.loader.LoadedAs.{LoadedAs}
@@ -115,27 +118,47 @@ one-plain files (Some f) agrees =
     (agrees f.0 f.1 refl))
 
 plains-are : (files : Files) (named : List Named) (ns : List ℕ) → Agrees files.trees named
-    → picked_plains (map (described_by files) named) ns ≡ plains_at files (paths_by named ns)
+    → picked_descriptors (map (described_by files) named) ns ≡ plains_at files (paths_by named ns)
 plains-are files named [] agrees = refl
 plains-are files named (n ∷ ns) agrees =
     let at = path_of (slice_get named n) in
     let first : option_to_list (slice_get (map (described_by files) named) n) ≡ plains_at files at =
     ap option_to_list (slice_get-map (described_by files) named n)
     ∙ one-plain files (slice_get named n) (λ q u h. agrees n q u h) in
-    ap (λ ds. ds ++ picked_plains (map (described_by files) named) ns) first
+    ap (λ ds. ds ++ picked_descriptors (map (described_by files) named) ns) first
     ∙ ap (λ ds. plains_at files at ++ ds) (plains-are files named ns agrees)
     ∙ sym (plains_at-append files at (paths_by named ns))
 
--- the loaded files have the descriptors of their trees
-pub plains-made : (gathers : Bool) (files : Files) (log : List ReadEntry)
+-- but for options, the loaded files have the descriptors of their trees
+pub made-alike : (gathers : Bool) (files : Files) (log : List ReadEntry)
     (loaded : List LoadedEntry)
     → AllByRecursion (λ (e : LoadedEntry). IsLoaded gathers files log (string_bytes e.0) e.1) loaded
-    → map plain_in loaded ≡ map (described_by files) (named_trees loaded)
-plains-made gathers files log [] made = refl
-plains-made gathers files log (e ∷ loaded) made =
-    ap (λ d. d ∷ map plain_in loaded) made.0.plain
-    ∙ ap (λ ds. plain_of files (string_bytes e.0) (tree_in e.1) ∷ ds)
-    (plains-made gathers files log loaded made.1)
+    → DifferOnlyInOptions (map descriptor_in loaded)
+    (map (described_by files) (named_trees loaded))
+made-alike gathers files log [] made = refl
+made-alike gathers files log (e ∷ loaded) made =
+    ap (λ d. d ∷ map bare_file (map descriptor_in loaded)) made.0.alike
+    ∙ ap (λ ds. bare_file (plain_of files (string_bytes e.0) (tree_in e.1)) ∷ ds)
+    (made-alike gathers files log loaded made.1)
+
+bare-one : (o : Option FileDescriptor)
+    → option_to_list (option_map bare_file o) ≡ map bare_file (option_to_list o)
+bare-one None = refl
+bare-one (Some d) = refl
+
+bare-picked : (ds : List FileDescriptor) (ns : List ℕ)
+    → picked_descriptors (map bare_file ds) ns ≡ map bare_file (picked_descriptors ds ns)
+bare-picked ds [] = refl
+bare-picked ds (n ∷ ns) =
+    both-become bare_file (option_to_list (slice_get ds n)) (picked_descriptors ds ns)
+    (option_to_list (slice_get (map bare_file ds) n)) (picked_descriptors (map bare_file ds) ns)
+    (ap option_to_list (slice_get-map bare_file ds n) ∙ bare-one (slice_get ds n))
+    (bare-picked ds ns)
+
+picked-alike : (ds es : List FileDescriptor) (ns : List ℕ) → DifferOnlyInOptions ds es
+    → DifferOnlyInOptions (picked_descriptors ds ns) (picked_descriptors es ns)
+picked-alike ds es ns same =
+    sym (bare-picked ds ns) ∙ ap (λ bs. picked_descriptors bs ns) same ∙ bare-picked es ns
 
 -- ** each of them once
 
@@ -318,7 +341,8 @@ pub record IsNext (files : Files) (loaded : List LoadedEntry) (tables : Tables)
   pub packages : HavePackages files.trees
   pub known : AreKnown loaded tables log
   pub agrees : Agrees files.trees (named_trees loaded)
-  pub plain : map plain_in loaded ≡ map (described_by files) (named_trees loaded)
+  pub alike : DifferOnlyInOptions (map descriptor_in loaded)
+      (map (described_by files) (named_trees loaded))
   pub faulty : (n : ℕ) (e : LoadedEntry) → slice_get loaded n ≡ Some e
       → e.1.faulty ≡ is_faulty files (string_bytes e.0)
   pub is : files.trees p ≡ Some t
@@ -403,48 +427,58 @@ module _ (files : Files) (loaded : List LoadedEntry) (tables : Tables) (log : Li
       ∙ ap (sees_types c)
       (types-same files.trees rs ss (files.seen p) reached-by.once same-sight sight-within h)
 
-  abbrev plains : List FileDescriptor
-  plains = plains_next loaded sight p t
+  abbrev descriptors : List FileDescriptor
+  descriptors = descriptors_next loaded sight p t
 
   own-is : linked ≡ [] → plain_over (with_next loaded t) sight p t ≡ plain_of files p t
   own-is h = ap (λ (env : Environment). file_of env p t) (same-types h no_customs)
 
-  plains-with : linked ≡ [] → plains ≡ map (described_by files) with_p
+  plains-with : linked ≡ [] → DifferOnlyInOptions descriptors (map (described_by files) with_p)
   plains-with h =
-      ap (λ ds. ds ++ plain_over (with_next loaded t) sight p t ∷ []) n.plain
-      ∙ ap (λ d. map (described_by files) (named_trees loaded) ++ d ∷ []) (own-is h)
-      ∙ sym (map-append (described_by files) (named_trees loaded) ((p, t) ∷ []))
+      let plains = map (described_by files) (named_trees loaded) in
+      let own = plain_over (with_next loaded t) sight p t in
+      map-append bare_file (map descriptor_in loaded) (own ∷ [])
+      ∙ ap (λ bs. bs ++ bare_file own ∷ []) n.alike
+      ∙ ap (λ d. map bare_file plains ++ bare_file d ∷ []) (own-is h)
+      ∙ sym (map-append bare_file plains (plain_of files p t ∷ []))
+      ∙ ap (map bare_file) (sym (map-append (described_by files) (named_trees loaded)
+      ((p, t) ∷ [])))
 
   plains-at : linked ≡ [] → (ns : List ℕ)
-      → picked_plains plains ns ≡ plains_at files (paths_by with_p ns)
-  plains-at h ns = ap (λ ds. picked_plains ds ns) (plains-with h)
-      ∙ plains-are files with_p ns agrees-p
+      → DifferOnlyInOptions (picked_descriptors descriptors ns)
+      (plains_at files (paths_by with_p ns))
+  plains-at h ns =
+      picked-alike descriptors (map (described_by files) with_p) ns (plains-with h)
+      ∙ ap (map bare_file) (plains-are files with_p ns agrees-p)
 
-  same-customs : linked ≡ [] → customs_over plains reach sight ≡ customs_of files p
+  same-customs : linked ≡ [] → customs_over descriptors reach sight ≡ customs_of files p
   same-customs h =
-      ap (λ ds. known_customs ds (picked_plains plains sight)) (plains-at h reach)
-      ∙ ap (λ ds. known_customs (plains_at files rs) ds) (plains-at h sight)
+      customs_ignore_options (picked_descriptors descriptors reach) (plains_at files rs)
+      (picked_descriptors descriptors sight) (plains_at files ss) (plains-at h reach)
+      (plains-at h sight)
       ∙ customs-same files rs (files.reached p) ss
       (files.seen p) n.packages same-reach same-sight sight-within h
 
   -- ** faults
 
   abbrev others_over : List elaborating.Fault
-  others_over = others_by (picked (with_next loaded t) sight) (customs_over plains reach sight) t
+  others_over = others_by (picked (with_next loaded t) sight)
+      (customs_over descriptors reach sight) t
 
-  over-is : faults_over (with_next loaded t) plains reach sight t ≡ before_others linked others_over
+  over-is : faults_over (with_next loaded t) descriptors reach sight t
+      ≡ before_others linked others_over
   over-is = ap (λ (fs : List elaborating.Fault). before_others fs others_over) linked-is
 
   others-same : linked ≡ [] → others_over ≡ others files p t
   others-same h =
       ap (λ (env : Environment). before_others (file_faults env t)
-      (told_by (customs_over plains reach sight) t)) (same-types h no_customs)
+      (told_by (customs_over descriptors reach sight) t)) (same-types h no_customs)
       ∙ ap (λ (c : Customs). others_by (trees_at files.trees (files.seen p)) c t) (same-customs h)
 
-  pub over-linked : faults_over (with_next loaded t) plains reach sight t ≡ [] → linked ≡ []
+  pub over-linked : faults_over (with_next loaded t) descriptors reach sight t ≡ [] → linked ≡ []
   over-linked h = none-before linked others_over (sym over-is ∙ h)
 
-  pub over-faultless : faults_over (with_next loaded t) plains reach sight t ≡ []
+  pub over-faultless : faults_over (with_next loaded t) descriptors reach sight t ≡ []
       → faults_at files p (Some t) ≡ []
   over-faultless h =
       let first = over-linked h in
@@ -452,11 +486,11 @@ module _ (files : Files) (loaded : List LoadedEntry) (tables : Tables) (log : Li
       (sym (others-same first) ∙ none-after linked others_over (sym over-is ∙ h))
 
   pub over-descriptor : linked ≡ []
-      → file_over (with_next loaded t) plains reach sight p t
+      → file_over (with_next loaded t) descriptors reach sight p t
       ≡ file_of (environment_of files p t) p t
   over-descriptor h =
       ap (λ (env : Environment). file_of env p t)
-      (same-types h (customs_over plains reach sight))
+      (same-types h (customs_over descriptors reach sight))
       ∙ ap (λ (c : Customs). file_of (environment (trees_at files.trees (files.seen p)) c t) p t)
       (same-customs h)
 
@@ -467,12 +501,12 @@ module _ (files : Files) (loaded : List LoadedEntry) (tables : Tables) (log : Li
   -- ** where faults are gathered
 
   pub ending-linked : (gathers : Bool)
-      → ending_over gathers (with_next loaded t) plains reach sight t ≡ [] → linked ≡ []
+      → ending_over gathers (with_next loaded t) descriptors reach sight t ≡ [] → linked ≡ []
   ending-linked true h = sym linked-is ∙ h
   ending-linked false h = over-linked h
 
   pub ending-faultless : (gathers : Bool)
-      → ending_over gathers (with_next loaded t) plains reach sight t ≡ []
+      → ending_over gathers (with_next loaded t) descriptors reach sight t ≡ []
       → ending_faults gathers files p (Some t) ≡ []
   ending-faultless true h = link-again (sym linked-is ∙ h)
   ending-faultless false h = over-faultless h
@@ -482,10 +516,10 @@ module _ (files : Files) (loaded : List LoadedEntry) (tables : Tables) (log : Li
 
   pub customs-told-same : linked ≡ []
       → file_faults (environment (picked (with_next loaded t) sight)
-      (customs_over plains reach sight) t) t ≡ file_faults (environment_of files p t) t
+      (customs_over descriptors reach sight) t) t ≡ file_faults (environment_of files p t) t
   customs-told-same h =
       ap (λ (env : Environment). file_faults env t)
-      (same-types h (customs_over plains reach sight))
+      (same-types h (customs_over descriptors reach sight))
       ∙ ap (λ (c : Customs). file_faults (environment (trees_at files.trees (files.seen p)) c t) t)
       (same-customs h)
 
@@ -534,7 +568,7 @@ module _ (files : Files) (loaded : List LoadedEntry) (tables : Tables) (log : Li
 
   pub over-report : linked ≡ [] → (own : Bool)
       → own ≡ not (is_nothing (own_over (with_next loaded t) sight t))
-      → report_over (with_next loaded t) plains reach sight (any_faulty loaded reach own) t
+      → report_over (with_next loaded t) descriptors reach sight (any_faulty loaded reach own) t
       ≡ report_at files p t
   over-report h own is =
       let here = is-faulty-here own
@@ -545,15 +579,15 @@ module _ (files : Files) (loaded : List LoadedEntry) (tables : Tables) (log : Li
       ap (λ (fs : List elaborating.Fault). before_others fs
       (if any_faulty loaded reach own then [] else
       file_faults (environment (picked (with_next loaded t) sight)
-      (customs_over plains reach sight) t) t)) (own-same h)
+      (customs_over descriptors reach sight) t) t)) (own-same h)
       ∙ ap (λ (b : Bool). before_others (own_faults files p (Some t)) (if b then [] else
       file_faults (environment (picked (with_next loaded t) sight)
-      (customs_over plains reach sight) t) t)) any
+      (customs_over descriptors reach sight) t) t)) any
       ∙ ap (λ (fs : List elaborating.Fault). before_others (own_faults files p (Some t))
       (if list_any (is_faulty files) (files.reached p) then [] else fs)) (customs-told-same h)
 
   pub over-told : (f : elaborating.Fault)
-      → Among (faults_over (with_next loaded t) plains reach sight t) f
+      → Among (faults_over (with_next loaded t) descriptors reach sight t) f
       → Among (faults_at files p (Some t)) f
   over-told f m =
       elim (which-told linked others_over f
@@ -566,7 +600,7 @@ module _ (files : Files) (loaded : List LoadedEntry) (tables : Tables) (log : Li
       ]
 
   pub ending-told : (gathers : Bool) (f : elaborating.Fault)
-      → Among (ending_over gathers (with_next loaded t) plains reach sight t) f
+      → Among (ending_over gathers (with_next loaded t) descriptors reach sight t) f
       → Among (ending_faults gathers files p (Some t)) f
   ending-told true f m =
       link-told files.trees rs (files.reached p) f reached-by.once
@@ -612,9 +646,9 @@ settled-in gathers files loaded new tables after p t height read below public lo
       descriptor = λ runs. a.descriptor runs
           ∙ over-descriptor files loaded tables log p t below n reach a.sight a.reaches a.sees
           linked;
-      plain = a.plain
-          ∙ over-plain files loaded tables log p t below n reach a.sight a.reaches a.sees
-          linked;
+      alike = a.alike
+          ∙ ap bare_file (over-plain files loaded tables log p t below n reach a.sight a.reaches
+          a.sees linked);
       faulty = a.faulty
           ∙ ap (λ (fs : List elaborating.Fault). not (is_nothing fs))
           (own-same files loaded tables log p t below n reach a.sight a.reaches a.sees linked);
@@ -628,7 +662,7 @@ settled-in gathers files loaded new tables after p t height read below public lo
     elim (over e found named) [
       | inl w ↦
           inl (stands-more (origin_given p (Some e.outcome))
-          (ending_over gathers (with_next loaded t) (plains_next loaded w.1 p t) w.0 w.1 t)
+          (ending_over gathers (with_next loaded t) (descriptors_next loaded w.1 p t) w.0 w.1 t)
           (ending_faults gathers files p (Some t)) f
           (λ g m. ending-told files loaded tables log p t below n w.0 w.1 w.2 w.3 gathers g m) w.4)
       | inr w ↦ inr w

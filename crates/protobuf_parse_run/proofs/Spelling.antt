@@ -1,6 +1,6 @@
 -- What custom options add to a file: faults beside its others, and bytes in its descriptor.
 use Rattle.std.proofs.Common.{arith, length, ◌≡◌, ◌++◌, ◌||◌, not, inl, inr, ℕ, Bool, true, map}
-use Rattle.std.proofs.Common.{List, [], ◌∷◌, flat_map, Some, None, Ok, Err, refl, ◌∙◌, ap, sym}
+use Rattle.std.proofs.Common.{List, [], ◌∷◌, flat_map, Ok, Err, refl, ◌∙◌, ap, sym}
 use Rattle.std.proofs.Common.{subst, false}
 use Rattle.std.specs.Global.{Vec}
 use Rattle.std.specs.Prelude.{if◌then◌else◌, vec_len, OnOk, Result}
@@ -34,9 +34,11 @@ use Rattle.protobuf_parse_wire.specs.Views.{entries_of_list}
 use Rattle.protobuf_parse_options.specs.CustomOptions.{items_of_option, scope_of}
 use Rattle.protobuf_parse_options.specs.OptionFields.{OptionScope}
 use Rattle.protobuf_parse_options.specs.OptionBytes.{known_customs, option_bytes}
-use Rattle.protobuf_parse_run.specs.Loading.{Describes, LoadedEntry, customs_over, picked_plains}
+use Rattle.protobuf_parse_options.specs.WithoutOptions.{bare_file}
+use Rattle.protobuf_parse_options.proofs.BareFiles.{file-alike}
+use Rattle.protobuf_parse_run.specs.Loading.{Describes, LoadedEntry, customs_over}
 use Rattle.protobuf_parse_run.specs.Loading.{any_faulty, own_over, plain_over, report_over}
-use Rattle.protobuf_parse_run.specs.Loading.{plains_over}
+use Rattle.protobuf_parse_run.specs.Loading.{descriptors_over, picked_descriptors}
 use Rattle.protobuf_parse_run.specs.Run.{Files, customs_of, is_nothing}
 
 -- ** the faults of a file but those of names that are declared twice
@@ -124,6 +126,12 @@ module _ (seen : List FileSyntax) (files visible : List FileDescriptor) (t : Fil
         | inr w ↦ w
       ]
 
+-- custom options change nothing in what a file becomes but options
+pub options-alike : (seen : List FileSyntax) (c : Customs) (path : Text) (t : FileSyntax)
+    → bare_file (file_of (environment seen c t) path t)
+    ≡ bare_file (file_of (environment seen no_customs t) path t)
+options-alike seen c path t = file-alike c no_customs (environment seen c t) path t
+
 -- ** what is told of custom options
 
 pub none-found : (faults : Vec ElabError) → (vec_len faults == 0) ≡ true → found faults ≡ []
@@ -144,29 +152,29 @@ nothing-is faults fs is =
         some true is = let no = eqb-true (length (e ∷ es)) 0 is in absurd (omega (arith, no))
         some false is = refl
 
-module _ (files : List FileSyntax) (plains : List FileDescriptor) (reach sight : List ℕ)
+module _ (files : List FileSyntax) (descriptors : List FileDescriptor) (reach sight : List ℕ)
     (t : FileSyntax) where
   abbrev customs_there : List Fault
   customs_there =
-      file_faults (environment (picked files sight) (customs_over plains reach sight) t) t
+      file_faults (environment (picked files sight) (customs_over descriptors reach sight) t) t
 
   -- where none is set, none is told
   pub further-none : (faulty : Bool) (old : List Fault)
       → list_any sets_custom (option_sets t) ≡ false → old ≡ [] → old ≡ own_over files sight t
-      → old ≡ report_over files plains reach sight faulty t
+      → old ≡ report_over files descriptors reach sight faulty t
   further-none faulty old none empty own =
       let no-own : own_over files sight t ≡ [] = sym own ∙ empty in
       empty ∙ sym (nothing faulty no-own (nothing-known (picked files sight)
-      (picked_plains plains reach) (picked_plains plains sight) t none no-own))
+      (picked_descriptors descriptors reach) (picked_descriptors descriptors sight) t none no-own))
     where
       nothing : (faulty : Bool) → own_over files sight t ≡ [] → customs_there ≡ []
-          → report_over files plains reach sight faulty t ≡ []
+          → report_over files descriptors reach sight faulty t ≡ []
       nothing true own customs = rw own refl
       nothing false own customs = rw (own, customs) refl
 
   pub further-told : (faulty : Bool) (old new : List Fault) → old ≡ []
       → old ≡ own_over files sight t → faulty ≡ false → new ≡ old ++ customs_there
-      → new ≡ report_over files plains reach sight faulty t
+      → new ≡ report_over files descriptors reach sight faulty t
   further-told faulty old new empty own clean told =
       let no-own : own_over files sight t ≡ [] = sym own ∙ empty in
       told ∙ ap (λ fs. fs ++ customs_there) empty ∙ sym (rw (no-own, clean) refl)
@@ -174,16 +182,16 @@ module _ (files : List FileSyntax) (plains : List FileDescriptor) (reach sight :
   pub further-told-of : {X E : Type 0} (faulty : Bool) (old new : List Fault) (r : Result X E)
       → old ≡ [] → old ≡ own_over files sight t → faulty ≡ false
       → OnOk r (new ≡ old ++ customs_there)
-      → OnOk r (new ≡ report_over files plains reach sight faulty t)
+      → OnOk r (new ≡ report_over files descriptors reach sight faulty t)
   further-told-of faulty old new (Ok x) empty own clean told =
       further-told faulty old new empty own clean told
   further-told-of faulty old new (Err e) empty own clean told = tt
 
   -- the faults of the file itself stand for its own part
   pub report-same : (own b : Bool) → own ≡ not (is_nothing (own_over files sight t))
-      → report_over files plains reach sight (own || b) t
-      ≡ report_over files plains reach sight b t
-  report-same own b is = ap (λ o. report_over files plains reach sight (o || b) t) is
+      → report_over files descriptors reach sight (own || b) t
+      ≡ report_over files descriptors reach sight b t
+  report-same own b is = ap (λ o. report_over files descriptors reach sight (o || b) t) is
       ∙ by-own (own_over files sight t)
     where
       by-own : (fs : List Fault)
@@ -196,29 +204,29 @@ module _ (files : List FileSyntax) (plains : List FileDescriptor) (reach sight :
 
 module _ (loaded : List LoadedEntry) (files : List FileSyntax) (reach sight : List ℕ) (path : Text)
     (t : FileSyntax) (linked : link_faults (picked files reach) ≡ []) where
-  abbrev plains : List FileDescriptor
-  plains = plains_over loaded files sight path t
+  abbrev descriptors : List FileDescriptor
+  descriptors = descriptors_over loaded files sight path t
 
   abbrev seen : List FileSyntax
   seen = picked files sight
 
-  abbrev reached_plains : List FileDescriptor
-  reached_plains = picked_plains plains reach
+  abbrev reached_descriptors : List FileDescriptor
+  reached_descriptors = picked_descriptors descriptors reach
 
-  abbrev seen_plains : List FileDescriptor
-  seen_plains = picked_plains plains sight
+  abbrev seen_descriptors : List FileDescriptor
+  seen_descriptors = picked_descriptors descriptors sight
 
   all-faultless : file_faults (environment seen no_customs t) t ≡ []
-      → custom_option_faults reached_plains seen_plains t ≡ []
+      → custom_option_faults reached_descriptors seen_descriptors t ≡ []
       → before_others (link_faults (picked files reach))
       (before_others (file_faults (environment seen no_customs t) t)
-      (custom_option_faults reached_plains seen_plains t)) ≡ []
+      (custom_option_faults reached_descriptors seen_descriptors t)) ≡ []
   all-faultless own options = rw (linked, own) options
 
   -- where nothing is wrong nothing is told
   nothing-told : (faulty : Bool) → own_over files sight t ≡ []
-      → file_faults (environment seen (customs_over plains reach sight) t) t ≡ []
-      → report_over files plains reach sight faulty t ≡ []
+      → file_faults (environment seen (customs_over descriptors reach sight) t) t ≡ []
+      → report_over files descriptors reach sight faulty t ≡ []
   nothing-told true own customs = rw own refl
   nothing-told false own customs = rw (own, customs) refl
 
@@ -228,32 +236,31 @@ module _ (loaded : List LoadedEntry) (files : List FileSyntax) (reach sight : Li
       → file_faults (environment seen no_customs t) t ≡ []
       → described.file_view d ≡ plain_over files sight path t
       → Describes false loaded files reach sight path t
-      (Ok (record { descriptor = d; plain = None; faults = faults; faulty = false }))
+      (Ok (record { descriptor = d; faults = faults; faulty = false }))
   none-set d faults empty none own is = record {
-    faultless = all-faultless own (nothing-wrong seen reached_plains seen_plains t none);
-    descriptor = λ runs. is ∙ nothing-spelled seen reached_plains seen_plains t none path;
-    plain = is;
+    faultless = all-faultless own (nothing-wrong seen reached_descriptors seen_descriptors t none);
+    descriptor = λ runs. is ∙ nothing-spelled seen reached_descriptors seen_descriptors t none path;
+    alike = ap bare_file is;
     faulty = rw own refl;
     told = ap (map fault_view) empty
         ∙ sym (nothing-told (any_faulty loaded reach false) own
-        (nothing-known seen reached_plains seen_plains t none own));
+        (nothing-known seen reached_descriptors seen_descriptors t none own));
   }
 
   -- some may be set
-  pub some-set : (c : Customs) (plain d : FileDescriptorProto) (faults : Vec ElabError)
-      → faults.items ≡ [] → c ≡ customs_over plains reach sight
+  pub some-set : (c : Customs) (d : FileDescriptorProto) (faults : Vec ElabError)
+      → faults.items ≡ [] → c ≡ customs_over descriptors reach sight
       → file_faults (environment seen no_customs t) t ≡ []
-      → described.file_view plain ≡ plain_over files sight path t
       → file_faults (environment seen c t) t ≡ []
       → described.file_view d ≡ file_of (environment seen c t) path t
       → Describes false loaded files reach sight path t
-      (Ok (record { descriptor = d; plain = Some plain; faults = faults; faulty = false }))
-  some-set c plain d faults empty same own first none is = record {
+      (Ok (record { descriptor = d; faults = faults; faulty = false }))
+  some-set c d faults empty same own none is = record {
     faultless = all-faultless own
-        (options-faultless seen reached_plains seen_plains t
+        (options-faultless seen reached_descriptors seen_descriptors t
         (subst (λ (k : Customs). file_faults (environment seen k t) t ≡ []) same none));
     descriptor = λ runs. is ∙ ap (λ (k : Customs). file_of (environment seen k t) path t) same;
-    plain = first;
+    alike = ap bare_file is ∙ options-alike seen c path t;
     faulty = rw own refl;
     told = ap (map fault_view) empty
         ∙ sym (nothing-told (any_faulty loaded reach false) own
@@ -266,7 +273,7 @@ module _ (loaded : List LoadedEntry) (files : List FileSyntax) (reach sight : Li
   own-told (failure.Memory) h = tt
   own-told (failure.Fault error) h =
       rw linked (told-first (file_faults (environment seen no_customs t) t)
-      (custom_option_faults reached_plains seen_plains t) (fault_view error) h)
+      (custom_option_faults reached_descriptors seen_descriptors t) (fault_view error) h)
     where
       told-first : (firsts others : List Fault) (f : Fault) → Among firsts f
           → Among (before_others firsts others) f
@@ -274,12 +281,13 @@ module _ (loaded : List LoadedEntry) (files : List FileSyntax) (reach sight : Li
       told-first (a ∷ firsts) others f m = m
 
   -- and those of its custom options
-  pub customs-told : (c : Customs) (e : ElabFailure) → c ≡ customs_over plains reach sight
+  pub customs-told : (c : Customs) (e : ElabFailure) → c ≡ customs_over descriptors reach sight
       → file_faults (environment seen no_customs t) t ≡ []
       → Blames e (file_faults (environment seen c t) t)
       → Describes false loaded files reach sight path t (Err e)
   customs-told c (failure.Memory) same own h = tt
   customs-told c (failure.Fault error) same own h =
-      rw (linked, own) (option-told seen reached_plains seen_plains t (fault_view error) own
+      rw (linked, own) (option-told seen reached_descriptors seen_descriptors t (fault_view error)
+      own
       (subst (λ (k : Customs). Among (file_faults (environment seen k t) t) (fault_view error))
       same h))

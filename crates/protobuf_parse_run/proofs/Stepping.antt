@@ -1,4 +1,5 @@
 -- What the steps of loading do to a run at a stack of frames.
+use Rattle.protobuf_parse_options.specs.WithoutOptions.{bare_file}
 use Rattle.protobuf_parse_run.specs.Run.{ends}
 use Rattle.std.specs.Prelude.{not, Bool}
 use Rattle.std.proofs.Common.{◌≡◌, ℕ, suc, ◌+◌, ◌-◌, ◌<◌, ◌≤◌, false, inl, inr, List, [], ◌∷◌, ◌++◌}
@@ -41,7 +42,7 @@ use Rattle.protobuf_parse_run.proofs.Steps.{stops-more}
 use Rattle.protobuf_parse_run.proofs.Leaving.{stands-failing}
 use Rattle.protobuf_parse_run.proofs.Reordering.{packages-read}
 use Rattle.protobuf_parse_run.proofs.Faulty.{flags-made}
-use Rattle.protobuf_parse_run.proofs.Settling.{IsNext, agrees-made, plains-made, settled-in}
+use Rattle.protobuf_parse_run.proofs.Settling.{IsNext, agrees-made, made-alike, settled-in}
 use Rattle.protobuf_parse_run.proofs.Counting.{after-load, count-grows, statements-append}
 use Rattle.protobuf_parse_run.proofs.Stacks.{chain_of-push, done-import, done-other, frames-into}
 use Rattle.protobuf_parse_run.proofs.Stacks.{frames-pop, frames-push, left-import, left-joined}
@@ -388,7 +389,7 @@ module _ (gathers : Bool) (legal : Legal) (files : Files) (kept events : List Ev
         packages = packages-read files table full go;
         known = known;
         agrees = agrees;
-        plain = plains-made gathers files log loaded r.good.made;
+        alike = made-alike gathers files log loaded r.good.made;
         faulty = flags-made gathers files log loaded r.good.made;
         is = r.held.is;
         none = none;
@@ -417,7 +418,7 @@ module _ (gathers : Bool) (legal : Legal) (files : Files) (kept events : List Ev
             is = r.held.is ∙ ap Some (sym d.tree_is);
             descriptor = λ runs. d.descriptor runs
                 ∙ ap (λ u. file_of (environment_of files p u) p u) (sym d.tree_is);
-            plain = d.plain ∙ ap (plain_of files p) (sym d.tree_is);
+            alike = d.alike ∙ ap (λ u. bare_file (plain_of files p u)) (sym d.tree_is);
             faulty = d.faulty
                 ∙ ap (λ (o : Option FileSyntax). not (is_nothing (own_faults files p o)))
                 (sym r.held.is);

@@ -141,7 +141,7 @@ module _ (gathers : Bool) (legal : Legal) (files : Files) where
     low = l.low;
     is = l.is;
     descriptor = l.descriptor;
-    plain = l.plain;
+    alike = l.alike;
     faulty = l.faulty;
     told = l.told;
     entry = l.entry;

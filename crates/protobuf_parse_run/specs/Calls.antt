@@ -18,7 +18,7 @@ use Rattle.protobuf_parse_run.specs.Walks.{keep, walk}
 use Rattle.protobuf_parse_run.specs.Run.{Files, IsCounted, MayRead, MayResolve, rows}
 use Rattle.protobuf_parse_run.specs.Loading.{AreKnown, GoesOn, Goes, Good, Grows, IndexBegins}
 use Rattle.protobuf_parse_run.specs.Loading.{IsDecided, SettlesOver, asked_by, chain_texts}
-use Rattle.protobuf_parse_run.specs.Loading.{legal_by, named_trees, plain_in, trees_of}
+use Rattle.protobuf_parse_run.specs.Loading.{legal_by, named_trees, descriptor_in, trees_of}
 use Rattle.protobuf_parse_run.specs.Frames.{Meets, StandsMet, frame_path}
 
 -- ---- which events are kept after a call, by those that were
@@ -81,7 +81,7 @@ KnowsFiles loader = AreKnown loader.loaded.entries loader.tables loader.reads.it
 
 -- The index of what custom options name has the first of the loaded files.
 abbrev pub HasIndex : Loader → Type 0
-HasIndex loader = IndexBegins loader.tables.spots (map plain_in loader.loaded.entries)
+HasIndex loader = IndexBegins loader.tables.spots (map descriptor_in loader.loaded.entries)
 
 -- Where each text that was read had one tree or none, so has each that is read by now.
 abbrev pub StaysDecided : {R I : Type 0} → Sources R I → Loader → Loader → Type 0

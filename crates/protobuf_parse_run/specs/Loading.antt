@@ -26,6 +26,7 @@ use Rattle.protobuf_parse_elaboration.specs.FilesByPath.{AreDistinct}
 use Rattle.protobuf_parse_options.specs.CustomFaults.{elaboration_faults}
 use Rattle.protobuf_parse_options.specs.Holding.{Holds}
 use Rattle.protobuf_parse_options.specs.OptionBytes.{known_customs}
+use Rattle.protobuf_parse_options.specs.WithoutOptions.{bare_file}
 use Rattle.protobuf_parse_run.specs.declared.fault.RunFault.{RunFault}
 use Rattle.protobuf_parse_run.specs.declared.fault.RunFault.TheVariants as fault
 use Rattle.protobuf_parse_run.specs.declared.describe.Described.{Described}
@@ -79,28 +80,23 @@ read_paths log = map (λ (e : ReadEntry). path_buf_text e.path) log
 
 -- ---- descriptors by numbers
 
--- a descriptor without custom options: the same one, where it has none
-abbrev pub plain_or : Option FileDescriptorProto → FileDescriptorProto → FileDescriptor
-plain_or (Some plain) d = described.file_view plain
-plain_or None d = described.file_view d
-
-abbrev pub plain_in : LoadedEntry → FileDescriptor
-plain_in e = plain_or e.1.plain e.1.descriptor
+abbrev pub descriptor_in : LoadedEntry → FileDescriptor
+descriptor_in e = described.file_view e.1.descriptor
 
 -- those of the loaded files, and behind them that of the next
-abbrev pub plains_with : List LoadedEntry → FileDescriptor → List FileDescriptor
-plains_with loaded d = map plain_in loaded ++ d ∷ []
+abbrev pub descriptors_with : List LoadedEntry → FileDescriptor → List FileDescriptor
+descriptors_with loaded d = map descriptor_in loaded ++ d ∷ []
 
 -- The index has just the files, as many as it counts.
-pub record IsWhole (spots : RunSpots) (plains : List FileDescriptor) : Type 0 where
-  pub holds : Holds spots.declared plains
-  pub count : length plains ≡ spots.files
+pub record IsWhole (spots : RunSpots) (descriptors : List FileDescriptor) : Type 0 where
+  pub holds : Holds spots.declared descriptors
+  pub count : length descriptors ≡ spots.files
 
 -- The index has the first of the files.
-pub record IndexBegins (spots : RunSpots) (plains : List FileDescriptor) : Type 0 where
+pub record IndexBegins (spots : RunSpots) (descriptors : List FileDescriptor) : Type 0 where
   pub front : List FileDescriptor
   pub rest : List FileDescriptor
-  pub split : plains ≡ front ++ rest
+  pub split : descriptors ≡ front ++ rest
   pub whole : IsWhole spots front
 
 -- ---- the numbers of loaded files
@@ -162,7 +158,7 @@ AllHold R which loaded =
 pub record AreKnown (loaded : List LoadedEntry) (tables : Tables)
     (log : List ReadEntry) : Type 0 where
   pub tells : TableTells tables.names (trees_of (named_trees loaded))
-  pub begins : IndexBegins tables.spots (map plain_in loaded)
+  pub begins : IndexBegins tables.spots (map descriptor_in loaded)
   pub once : AreDistinct (paths_in (named_trees loaded))
   pub reach : AllHold Reaches held_as.Reach loaded
   pub handed_on : AllHold HandsOn held_as.HandedOn loaded
@@ -187,29 +183,30 @@ pub record AreJoined (which : Held) (loaded : List LoadedEntry)
   pub only : (n : ℕ) → Contains numbers n → Contains (held_by which loaded files) n
 
 -- those with these numbers
-abbrev pub picked_plains : List FileDescriptor → List ℕ → List FileDescriptor
-picked_plains plains numbers = flat_map (λ (n : ℕ). option_to_list (slice_get plains n)) numbers
+abbrev pub picked_descriptors : List FileDescriptor → List ℕ → List FileDescriptor
+picked_descriptors descriptors numbers =
+    flat_map (λ (n : ℕ). option_to_list (slice_get descriptors n)) numbers
 
 -- What a file becomes without its custom options, over the files with the numbers that it sees.
 abbrev pub plain_over : List FileSyntax → List ℕ → Text → FileSyntax → FileDescriptor
 plain_over files sight path t = file_of (environment (picked files sight) no_customs t) path t
 
--- the descriptors by which its custom options are looked up
-abbrev pub plains_over : List LoadedEntry → List FileSyntax → List ℕ → Text → FileSyntax
+-- the descriptors in which its custom options are looked up: its own is the one without them
+abbrev pub descriptors_over : List LoadedEntry → List FileSyntax → List ℕ → Text → FileSyntax
     → List FileDescriptor
-plains_over loaded files sight path t = plains_with loaded (plain_over files sight path t)
+descriptors_over loaded files sight path t = descriptors_with loaded (plain_over files sight path t)
 
 -- the faults of a file, and what it becomes, over the files with the numbers that it reaches and
 -- sees
 abbrev pub faults_over : List FileSyntax → List FileDescriptor → List ℕ → List ℕ → FileSyntax
     → List elaborating.Fault
-faults_over files plains reach sight t =
-    elaboration_faults (picked files reach) (picked files sight) (picked_plains plains reach)
-    (picked_plains plains sight) t
+faults_over files descriptors reach sight t =
+    elaboration_faults (picked files reach) (picked files sight)
+    (picked_descriptors descriptors reach) (picked_descriptors descriptors sight) t
 
 abbrev pub customs_over : List FileDescriptor → List ℕ → List ℕ → Customs
-customs_over plains reach sight =
-    known_customs (picked_plains plains reach) (picked_plains plains sight)
+customs_over descriptors reach sight =
+    known_customs (picked_descriptors descriptors reach) (picked_descriptors descriptors sight)
 
 -- those of a file by itself
 abbrev pub own_over : List FileSyntax → List ℕ → FileSyntax → List elaborating.Fault
@@ -218,24 +215,24 @@ own_over files sight t = file_faults (environment (picked files sight) no_custom
 -- those that end a run, or a check
 abbrev pub ending_over : Bool → List FileSyntax → List FileDescriptor → List ℕ → List ℕ
     → FileSyntax → List elaborating.Fault
-ending_over true files plains reach sight t = link_faults (picked files reach)
-ending_over false files plains reach sight t = faults_over files plains reach sight t
+ending_over true files descriptors reach sight t = link_faults (picked files reach)
+ending_over false files descriptors reach sight t = faults_over files descriptors reach sight t
 
 -- what a check tells, where it is known whether a file that it reaches has faults of its own
 abbrev pub report_over : List FileSyntax → List FileDescriptor → List ℕ → List ℕ → Bool
     → FileSyntax → List elaborating.Fault
-report_over files plains reach sight faulty t =
+report_over files descriptors reach sight faulty t =
     before_others (own_over files sight t)
     (if faulty then []
-    else file_faults (environment (picked files sight) (customs_over plains reach sight) t) t)
+    else file_faults (environment (picked files sight) (customs_over descriptors reach sight) t) t)
 
 abbrev pub file_over : List FileSyntax → List FileDescriptor → List ℕ → List ℕ → Text → FileSyntax
     → FileDescriptor
-file_over files plains reach sight path t =
-    file_of (environment (picked files sight) (customs_over plains reach sight) t) path t
+file_over files descriptors reach sight path t =
+    file_of (environment (picked files sight) (customs_over descriptors reach sight) t) path t
 
-abbrev pub plain_seen : Bor FileDescriptorProto → FileDescriptor
-plain_seen d = described.file_view d.now
+abbrev pub descriptor_seen : Bor FileDescriptorProto → FileDescriptor
+descriptor_seen d = described.file_view d.now
 
 -- the file with this number has faults of its own
 abbrev pub has_faults : Option LoadedEntry → Bool
@@ -251,26 +248,27 @@ abbrev pub any_faulty : List LoadedEntry → List ℕ → Bool → Bool
 any_faulty loaded numbers own =
     own || list_any (λ (n : ℕ). has_faults (slice_get loaded n)) numbers
 
--- What a file becomes by these numbers.
+-- What a file becomes by these numbers: but for options, what it becomes without its custom ones.
 pub record IsDescribed (gathers : Bool) (loaded : List LoadedEntry) (files : List FileSyntax)
     (reach sight : List ℕ) (path : Text) (t : FileSyntax) (d : Described) : Type 0 where
-  pub faultless : ending_over gathers files (plains_over loaded files sight path t) reach sight t
-      ≡ []
+  pub faultless : ending_over gathers files (descriptors_over loaded files sight path t)
+      reach sight t ≡ []
   pub descriptor : gathers ≡ false → described.file_view d.descriptor
-      ≡ file_over files (plains_over loaded files sight path t) reach sight path t
-  pub plain : plain_or d.plain d.descriptor ≡ plain_over files sight path t
+      ≡ file_over files (descriptors_over loaded files sight path t) reach sight path t
+  pub alike : bare_file (described.file_view d.descriptor)
+      ≡ bare_file (plain_over files sight path t)
   pub faulty : d.faulty ≡ not (is_nothing (own_over files sight t))
-  pub told : found d.faults ≡ report_over files (plains_over loaded files sight path t) reach sight
-      (any_faulty loaded reach d.faulty) t
+  pub told : found d.faults ≡ report_over files (descriptors_over loaded files sight path t)
+      reach sight (any_faulty loaded reach d.faulty) t
 
--- What a file becomes by these numbers, and without its custom options; or a fault that stands.
+-- What a file becomes by these numbers, or a fault that stands.
 abbrev pub Describes : Bool → List LoadedEntry → List FileSyntax → (reach sight : List ℕ) → Text
     → FileSyntax → Result Described ElabFailure → Type 0
 Describes gathers loaded files reach sight path t (Ok d) =
     IsDescribed gathers loaded files reach sight path t d
 Describes gathers loaded files reach sight path t (Err e) =
     Blames e
-    (ending_over gathers files (plains_over loaded files sight path t) reach sight t)
+    (ending_over gathers files (descriptors_over loaded files sight path t) reach sight t)
 
 -- these are more files than were loaded
 abbrev pub MoreLoaded : List LoadedEntry → List LoadedEntry → Type 0
@@ -306,14 +304,16 @@ abbrev pub imports_shape : Trees → List Text → WalkShape
 imports_shape trees paths =
     λ i a room chain. walks_joined (walk trees i the_resolver room chain) paths
 
--- a loaded file had the tree of its path, and is what that becomes
+-- a loaded file had the tree of its path, and is what that becomes; but for options this is what
+-- that becomes without custom ones
 pub record IsLoaded (gathers : Bool) (files : Files) (log : List ReadEntry) (path : Text)
     (file : LoadedFile) : Type 0 where
   pub low : file.height ≤ 100
   pub is : files.trees path ≡ Some (tree_in file)
   pub descriptor : gathers ≡ false → described.file_view file.descriptor
       ≡ file_of (environment_of files path (tree_in file)) path (tree_in file)
-  pub plain : plain_or file.plain file.descriptor ≡ plain_of files path (tree_in file)
+  pub alike : bare_file (described.file_view file.descriptor)
+      ≡ bare_file (plain_of files path (tree_in file))
   pub faulty : file.faulty ≡ is_faulty files path
   pub told : found file.faults ≡ report_at files path (tree_in file)
   pub entry : ReadEntry
@@ -449,7 +449,8 @@ pub record IsAdded (gathers : Bool) (files : Files) (path : Text) (tree : FileSy
   pub faultless : ending_faults gathers files path (Some tree) ≡ []
   pub descriptor : gathers ≡ false → described.file_view file.descriptor
       ≡ file_of (environment_of files path tree) path tree
-  pub plain : plain_or file.plain file.descriptor ≡ plain_of files path tree
+  pub alike : bare_file (described.file_view file.descriptor)
+      ≡ bare_file (plain_of files path tree)
   pub faulty : file.faulty ≡ not (is_nothing (own_faults files path (Some tree)))
   pub told : found file.faults ≡ report_at files path tree
   pub placed_is : placed.height ≡ height
@@ -503,9 +504,10 @@ Settles gathers files path tree height read log old new (Err f) = (e : ReadEntry
 abbrev pub with_next : List LoadedEntry → FileSyntax → List FileSyntax
 with_next loaded tree = trees_of (named_trees loaded) ++ tree ∷ []
 
--- the descriptors of the loaded files without custom options, and behind them that of the next
-abbrev pub plains_next : List LoadedEntry → List ℕ → Text → FileSyntax → List FileDescriptor
-plains_next loaded sight path tree = plains_over loaded (with_next loaded tree) sight path tree
+-- the descriptors of the loaded files, and behind them that of the next without custom options
+abbrev pub descriptors_next : List LoadedEntry → List ℕ → Text → FileSyntax → List FileDescriptor
+descriptors_next loaded sight path tree =
+    descriptors_over loaded (with_next loaded tree) sight path tree
 
 -- A file was added behind those that were loaded, whose imports have these numbers, and its public
 -- ones those. By the numbers of the files that it reaches and sees, no fault stands in it, and it
@@ -525,17 +527,18 @@ pub record IsAddedOver (gathers : Bool) (path : Text) (tree : FileSyntax) (heigh
   pub sees : AreJoined held_as.HandedOn old imports sight
   pub hands_on : AreJoined held_as.HandedOn old public file.handed_on.items
   pub faultless : ending_over gathers (with_next old tree)
-      (plains_next old sight path tree) file.reach.items sight tree ≡ []
+      (descriptors_next old sight path tree) file.reach.items sight tree ≡ []
   pub descriptor : gathers ≡ false → described.file_view file.descriptor
       ≡ file_over (with_next old tree)
-      (plains_next old sight path tree) file.reach.items sight path tree
+      (descriptors_next old sight path tree) file.reach.items sight path tree
   pub faulty : file.faulty ≡ not (is_nothing (own_over (with_next old tree) sight tree))
   pub told : found file.faults ≡ report_over (with_next old tree)
-      (plains_next old sight path tree) file.reach.items sight
+      (descriptors_next old sight path tree) file.reach.items sight
       (any_faulty old file.reach.items file.faulty) tree
-  pub plain : plain_or file.plain file.descriptor ≡ plain_over (with_next old tree) sight path tree
+  pub alike : bare_file (described.file_view file.descriptor)
+      ≡ bare_file (plain_over (with_next old tree) sight path tree)
   pub tells : TableTells tables.names (with_next old tree)
-  pub begins : IndexBegins tables.spots (map plain_in new)
+  pub begins : IndexBegins tables.spots (map descriptor_in new)
   pub height_placed : placed.height ≡ height
   pub number_placed : placed.number ≡ length old
 
@@ -547,7 +550,8 @@ IsRefusedOver gathers origin path tree imports old f =
     OrMemory f ((reach : List ℕ) × (sight : List ℕ) × AreJoined held_as.Reach old imports reach
     × AreJoined held_as.HandedOn old imports sight
     × StandsInElab origin
-    (ending_over gathers (with_next old tree) (plains_next old sight path tree) reach sight tree) f)
+    (ending_over gathers (with_next old tree)
+    (descriptors_next old sight path tree) reach sight tree) f)
 
 abbrev pub SettlesOver : Bool → Text → FileSyntax → ℕ → ℕ → List ℕ → List ℕ → List ReadEntry
     → List LoadedEntry

@@ -13,18 +13,18 @@ ghost use Rattle.protobuf_parse_model.specs.Tables.{TableTells, picked};
 ghost use Rattle.protobuf_parse_elaboration.specs.FileDescriptor.{environment, file_faults};
 ghost use Rattle.protobuf_parse_elaboration.specs.FileDescriptor.{file_of};
 ghost use Rattle.protobuf_parse_options.specs.Holding.{Holds};
-ghost use Rattle.protobuf_parse_run.specs.Loading.{IndexBegins, Describes, customs_over, plain_in};
-ghost use Rattle.protobuf_parse_run.specs.Loading.{has_faults, own_over, plain_or, report_over};
-ghost use Rattle.protobuf_parse_run.specs.Loading.{plain_seen, plains_with};
+ghost use Rattle.protobuf_parse_run.specs.Loading.{IndexBegins, Describes, customs_over};
+ghost use Rattle.protobuf_parse_run.specs.Loading.{descriptor_in, has_faults, own_over};
+ghost use Rattle.protobuf_parse_run.specs.Loading.{report_over, descriptor_seen, descriptors_with};
 
 use crate::loaded::LoadedFiles;
 use crate::reach::Sights;
-use crate::tables::{RunSpots, Tables, add_next, plain_of};
+use crate::tables::{RunSpots, Tables, add_next};
 use protobuf_parse_elaboration::{elaborate, elaborate_all, elaborate_all_owned, elaborate_owned};
 use protobuf_parse_model::{
     ElabError, ElabFailure, FileDescriptorProto, Seen, WithoutCustoms, link,
 };
-use protobuf_parse_options::{Spots, KnownFiles, PickedFiles, has_custom_option};
+use protobuf_parse_options::{KnownFiles, PickedFiles, Spots, has_custom_option};
 use protobuf_parse_syntax::FileTree;
 use std::alloc::{AllocError, Global};
 
@@ -32,8 +32,6 @@ use std::alloc::{AllocError, Global};
 #[derive(Drop)]
 pub struct Described {
     pub descriptor: FileDescriptorProto,
-    /// The descriptor without custom options, where it may have any.
-    pub plain: Option<FileDescriptorProto>,
     /// What is wrong in the file, where faults are gathered.
     pub faults: Vec<ElabError>,
     /// Whether something is wrong in it, its custom options left out.
@@ -53,13 +51,14 @@ pub fn elaborated(
     requires few { statements_in (file_syntax tree) ≤ 2147483647 }
     requires reach { IsStrictlyIncreasing sights.now.reach.items }
     requires sight { IsStrictlyIncreasing sights.now.sight.items }
-    requires begins { IndexBegins tables.old.spots (map plain_in loaded.now.entries) }
+    requires begins { IndexBegins tables.old.spots (map descriptor_in loaded.now.entries) }
     ensures names { tables.new.names ≡ tables.old.names }
     ensures describes { (files : List FileSyntax) → TableTells tables.old.names files
         → Describes false loaded.now.entries files sights.now.reach.items sights.now.sight.items path.now
         (file_syntax tree) result }
-    ensures begins { IfOk result (λ d. IndexBegins tables.new.spots
-        (plains_with loaded.now.entries (plain_or d.plain d.descriptor))) }
+    ensures begins { (files : List FileSyntax) → TableTells tables.old.names files
+        → IfOk result (λ d. IndexBegins tables.new.spots
+        (descriptors_with loaded.now.entries (described.file_view d.descriptor))) }
 {
     let seen = Seen {
         declarations: &tables.names,
@@ -73,7 +72,6 @@ pub fn elaborated(
         let descriptor = elaborate_owned(alloc, path, tree, &seen, &WithoutCustoms)?;
         Ok(Described {
             descriptor,
-            plain: None,
             faults: Vec::new(alloc),
             faulty: false,
         })
@@ -93,13 +91,13 @@ pub fn checked(
     requires few { statements_in (file_syntax tree) ≤ 2147483647 }
     requires reach { IsStrictlyIncreasing sights.now.reach.items }
     requires sight { IsStrictlyIncreasing sights.now.sight.items }
-    requires begins { IndexBegins tables.old.spots (map plain_in loaded.now.entries) }
+    requires begins { IndexBegins tables.old.spots (map descriptor_in loaded.now.entries) }
     ensures names { tables.new.names ≡ tables.old.names }
     ensures describes { (files : List FileSyntax) → TableTells tables.old.names files
         → Describes true loaded.now.entries files sights.now.reach.items sights.now.sight.items
         path.now (file_syntax tree) result }
     ensures begins { IfOk result (λ d. IndexBegins tables.new.spots
-        (plains_with loaded.now.entries (plain_or d.plain d.descriptor))) }
+        (descriptors_with loaded.now.entries (described.file_view d.descriptor))) }
 {
     let seen = Seen {
         declarations: &tables.names,
@@ -111,19 +109,9 @@ pub fn checked(
     let plain = elaborate_all(alloc, &mut faults, path, &tree, &seen, &WithoutCustoms)?;
     let faulty = !faults.is_empty();
     let spots = &mut tables.spots;
-    tell_further(
-        alloc,
-        &mut faults,
-        loaded,
-        spots,
-        &seen,
-        &plain,
-        path,
-        tree,
-    )?;
+    tell_further(alloc, &mut faults, loaded, spots, &seen, &plain, path, tree)?;
     Ok(Described {
         descriptor: plain,
-        plain: None,
         faults,
         faulty,
     })
@@ -142,16 +130,16 @@ fn tell_further(
     tree: FileTree,
 ) -> Result<(), AllocError>
     requires few { statements_in (file_syntax tree) ≤ 2147483647 }
-    requires begins { IndexBegins spots.old (map plain_in loaded.now.entries) }
+    requires begins { IndexBegins spots.old (map descriptor_in loaded.now.entries) }
     ensures begins { OnOk result (IndexBegins spots.new
-        (plains_with loaded.now.entries (described.file_view plain.now))) }
+        (descriptors_with loaded.now.entries (described.file_view plain.now))) }
     ensures told { (files : List FileSyntax) → TableTells seen.now.declarations.now files
-        → let plains = plains_with loaded.now.entries (described.file_view plain.now) in
+        → let descriptors = descriptors_with loaded.now.entries (described.file_view plain.now) in
         let reach = seen.now.reach.now in let sight = seen.now.sight.now in
         let t = file_syntax tree in
         let faulty = list_any (λ (n : ℕ). has_faults (slice_get loaded.now.entries n)) reach in
         found faults.old ≡ own_over files sight t
-        → OnOk result (found faults.new ≡ report_over files plains reach sight faulty t) }
+        → OnOk result (found faults.new ≡ report_over files descriptors reach sight faulty t) }
 {
     if !faults.is_empty() || reaches_faulty(loaded, seen.reach) {
         return Ok(());
@@ -208,20 +196,20 @@ fn tell_customs(
 ) -> Result<(), AllocError>
     requires few { statements_in (file_syntax tree) ≤ 2147483647 }
     requires holds { Holds spots.now
-        (plains_with loaded.now.entries (described.file_view plain.now)) }
+        (descriptors_with loaded.now.entries (described.file_view plain.now)) }
     ensures { (files : List FileSyntax) → TableTells seen.now.declarations.now files
-        → let plains = plains_with loaded.now.entries (described.file_view plain.now) in
+        → let descriptors = descriptors_with loaded.now.entries (described.file_view plain.now) in
         let sight = seen.now.sight.now in
-        let customs = customs_over plains seen.now.reach.now sight in
+        let customs = customs_over descriptors seen.now.reach.now sight in
         let t = file_syntax tree in let env = environment (picked files sight) customs t in
         OnOk result (found faults.new ≡ found faults.old ++ file_faults env t) }
 {
-    let reached = plains(alloc, loaded, plain, seen.reach)?;
+    let reached = descriptors(alloc, loaded, plain, seen.reach)?;
     let reach = PickedFiles {
         numbers: seen.reach,
         files: &reached,
     };
-    let visible = plains(alloc, loaded, plain, seen.sight)?;
+    let visible = descriptors(alloc, loaded, plain, seen.sight)?;
     let sight = PickedFiles {
         numbers: seen.sight,
         files: &visible,
@@ -242,20 +230,20 @@ fn with_customs(
     tree: FileTree,
 ) -> Result<Described, ElabFailure>
     requires few { statements_in (file_syntax tree) ≤ 2147483647 }
-    requires begins { IndexBegins spots.old (map plain_in loaded.now.entries) }
+    requires begins { IndexBegins spots.old (map descriptor_in loaded.now.entries) }
     ensures describes { (files : List FileSyntax) → TableTells seen.now.declarations.now files
         → link_faults (picked files seen.now.reach.now) ≡ []
         → Describes false loaded.now.entries files seen.now.reach.now seen.now.sight.now path.now
         (file_syntax tree) result }
-    ensures begins { IfOk result (λ d. IndexBegins spots.new
-        (plains_with loaded.now.entries (plain_or d.plain d.descriptor))) }
+    ensures begins { (files : List FileSyntax) → TableTells seen.now.declarations.now files
+        → IfOk result (λ d. IndexBegins spots.new
+        (descriptors_with loaded.now.entries (described.file_view d.descriptor))) }
 {
     let plain = elaborate(alloc, path, &tree, seen, &WithoutCustoms)?;
     add_next(spots, alloc, loaded, &plain)?;
     let descriptor = spelled(alloc, loaded, &spots.declared, seen, &plain, path, tree)?;
     Ok(Described {
         descriptor,
-        plain: Some(plain),
         faults: Vec::new(alloc),
         faulty: false,
     })
@@ -273,20 +261,20 @@ fn spelled(
 ) -> Result<FileDescriptorProto, ElabFailure>
     requires few { statements_in (file_syntax tree) ≤ 2147483647 }
     requires holds { Holds spots.now
-        (plains_with loaded.now.entries (described.file_view plain.now)) }
+        (descriptors_with loaded.now.entries (described.file_view plain.now)) }
     ensures { (files : List FileSyntax) → TableTells seen.now.declarations.now files
-        → let plains = plains_with loaded.now.entries (described.file_view plain.now) in
+        → let descriptors = descriptors_with loaded.now.entries (described.file_view plain.now) in
         let sight = seen.now.sight.now in
-        let customs = customs_over plains seen.now.reach.now sight in
+        let customs = customs_over descriptors seen.now.reach.now sight in
         let t = file_syntax tree in let env = environment (picked files sight) customs t in
         Elaborates described.file_view result (file_faults env t) (file_of env path.now t) }
 {
-    let reached = plains(alloc, loaded, plain, seen.reach)?;
+    let reached = descriptors(alloc, loaded, plain, seen.reach)?;
     let reach = PickedFiles {
         numbers: seen.reach,
         files: &reached,
     };
-    let visible = plains(alloc, loaded, plain, seen.sight)?;
+    let visible = descriptors(alloc, loaded, plain, seen.sight)?;
     let sight = PickedFiles {
         numbers: seen.sight,
         files: &visible,
@@ -295,35 +283,35 @@ fn spelled(
     elaborate_owned(alloc, path, tree, seen, &known)
 }
 
-/// The descriptors of the files with these numbers, without custom options. The next file's is
-/// `own`.
-fn plains<'a>(
+/// The descriptors of the files with these numbers. The next file's is `own`.
+fn descriptors<'a>(
     alloc: Global,
     loaded: &'a LoadedFiles,
     own: &'a FileDescriptorProto,
     numbers: &[u32],
 ) -> Result<Vec<Option<&'a FileDescriptorProto>>, AllocError>
-    ensures { IfOk result (λ v. map (option_map plain_seen) v.items ≡ map
-        (slice_get (plains_with loaded.now.entries (described.file_view own.now))) numbers.now) }
+    ensures { IfOk result (λ v. map (option_map descriptor_seen) v.items
+        ≡ map (slice_get (descriptors_with loaded.now.entries (described.file_view own.now)))
+        numbers.now) }
 {
     let mut list = Vec::new(alloc);
     'files: for number in numbers {
-        list.push(plain_at(loaded, own, *number))?;
+        list.push(descriptor_at(loaded, own, *number))?;
     }
     Ok(list)
 }
 
 /// That of the file with this number.
-fn plain_at<'a>(
+fn descriptor_at<'a>(
     loaded: &'a LoadedFiles,
     own: &'a FileDescriptorProto,
     number: u32,
 ) -> Option<&'a FileDescriptorProto>
-    ensures { option_map plain_seen result
-        ≡ slice_get (plains_with loaded.now.entries (described.file_view own.now)) number }
+    ensures { option_map descriptor_seen result
+        ≡ slice_get (descriptors_with loaded.now.entries (described.file_view own.now)) number }
 {
     match loaded.at(number) {
-        Some((_, file)) => Some(plain_of(file)),
+        Some((_, file)) => Some(&file.descriptor),
         None if number == loaded.len() => Some(own),
         None => None,
     }

@@ -11,6 +11,7 @@ ghost use Rattle.protobuf_parse_base.specs.PathViews.{path_buf_text};
 ghost use Rattle.protobuf_parse_syntax.specs.Counts.{statements_in};
 ghost use Rattle.protobuf_parse_syntax.specs.Trees.{file_syntax};
 ghost use Rattle.protobuf_parse_syntax.specs.Trees.{FileSyntax};
+ghost use Rattle.protobuf_parse_model.specs.Descriptors.{file_view};
 ghost use Rattle.protobuf_parse_model.specs.Faults.{fault_view};
 ghost use Rattle.protobuf_parse_model.specs.Tables.{TableTells};
 ghost use Rattle.protobuf_parse_run.specs.declared.fault.RunFault.TheVariants.{Memory};
@@ -22,8 +23,8 @@ ghost use Rattle.protobuf_parse_run.specs.Run.{input_view, origin_given, rows, t
 ghost use Rattle.protobuf_parse_run.specs.Loading.{Describes, Grows, IndexBegins, IsDecided};
 ghost use Rattle.protobuf_parse_run.specs.Loading.{IsElabFault, IsPlaced, IsReaders, IsShadowed};
 ghost use Rattle.protobuf_parse_run.specs.Loading.{ReadsTree, SettlesOver, asked_by, chain_texts};
-ghost use Rattle.protobuf_parse_run.specs.Loading.{ending_over, legal_by, named_trees, plain_or};
-ghost use Rattle.protobuf_parse_run.specs.Loading.{plains_over, plains_with, trees_of};
+ghost use Rattle.protobuf_parse_run.specs.Loading.{ending_over, legal_by, named_trees};
+ghost use Rattle.protobuf_parse_run.specs.Loading.{descriptors_over, descriptors_with, trees_of};
 ghost use Rattle.protobuf_parse_run.specs.Frames.{Joined, is_public_at, number_if};
 ghost use Rattle.protobuf_parse_run.specs.Calls.{CanMeet, ClosesFrame, CountsThrough, GoesThrough};
 ghost use Rattle.protobuf_parse_run.specs.Calls.{GoesTo, HasIndex, KnowsFiles, Loads, MeetsFile};
@@ -61,8 +62,6 @@ pub struct LoadedFile {
     /// Which read gave it.
     pub read: usize,
     pub descriptor: FileDescriptorProto,
-    /// The descriptor without custom options, where it may have any.
-    pub plain: Option<FileDescriptorProto>,
     /// What is wrong in it, where faults are gathered.
     pub faults: Vec<ElabError>,
     /// Whether something is wrong in it, its custom options left out.
@@ -79,7 +78,6 @@ impl Drop for LoadedFile {
             handed_on: _,
             read: _,
             descriptor: _,
-            plain: _,
             faults: _,
             faulty: _,
         } = self;
@@ -98,7 +96,6 @@ impl LoadedFile {
             handed_on: _,
             read: _,
             descriptor: _,
-            plain: _,
             faults,
             faulty: _,
         } = self;
@@ -116,7 +113,6 @@ impl LoadedFile {
             handed_on: _,
             read: _,
             descriptor,
-            plain: _,
             faults: _,
             faulty: _,
         } = self;
@@ -605,7 +601,6 @@ fn settle(
     let described = descriptor_of(alloc, loader, gathers, &sights, &path, tree, read)?;
     let Described {
         descriptor,
-        plain,
         faults,
         faulty,
     } = described;
@@ -621,7 +616,6 @@ fn settle(
         handed_on,
         read,
         descriptor,
-        plain,
         faults,
         faulty,
     };
@@ -670,10 +664,11 @@ fn descriptor_of(
         → path_buf_text e.path ≡ path.now
         → OrMemory f (StandsInElab (origin_given path.now (Some e.outcome))
         (ending_over gathers files
-        (plains_over loader.old.loaded.entries files sights.now.sight.items path.now t)
+        (descriptors_over loader.old.loaded.entries files sights.now.sight.items path.now t)
         sights.now.reach.items sights.now.sight.items t) f)) }
-    ensures begins { IfOk result (λ d. IndexBegins loader.new.tables.spots
-        (plains_with loader.old.loaded.entries (plain_or d.plain d.descriptor))) }
+    ensures begins { (files : List FileSyntax) → TableTells loader.old.tables.names files
+        → IfOk result (λ d. IndexBegins loader.new.tables.spots
+        (descriptors_with loader.old.loaded.entries (file_view d.descriptor))) }
 {
     match described(alloc, loader, gathers, sights, path, tree) {
         Ok(described) => Ok(described),
@@ -703,8 +698,9 @@ fn described(
     ensures describes { (files : List FileSyntax) → TableTells loader.old.tables.names files
         → Describes gathers loader.old.loaded.entries files sights.now.reach.items
         sights.now.sight.items path.now (file_syntax tree) result }
-    ensures begins { IfOk result (λ d. IndexBegins loader.new.tables.spots
-        (plains_with loader.old.loaded.entries (plain_or d.plain d.descriptor))) }
+    ensures begins { (files : List FileSyntax) → TableTells loader.old.tables.names files
+        → IfOk result (λ d. IndexBegins loader.new.tables.spots
+        (descriptors_with loader.old.loaded.entries (file_view d.descriptor))) }
 {
     if gathers {
         return checked(

@@ -3,11 +3,10 @@
 ghost use Rattle.std.specs.Prelude.{◌≡◌, ◌+◌, ◌^◌, ◌<◌, [], length, map, OnOk};
 ghost use Rattle.protobuf_parse_model.specs.Descriptors as described;
 ghost use Rattle.protobuf_parse_model.specs.Tables.{TableTells};
-ghost use Rattle.protobuf_parse_run.specs.Loading.{IndexBegins, IsWhole, plain_in, plain_or};
-ghost use Rattle.protobuf_parse_run.specs.Loading.{plains_with};
+ghost use Rattle.protobuf_parse_run.specs.Loading.{IndexBegins, IsWhole, descriptor_in};
+ghost use Rattle.protobuf_parse_run.specs.Loading.{descriptors_with};
 
 use crate::loaded::LoadedFiles;
-use crate::loader::LoadedFile;
 use protobuf_parse_model::{Declarations, FileDescriptorProto};
 use protobuf_parse_options::Spots;
 use std::alloc::{AllocError, Global};
@@ -25,7 +24,7 @@ pub struct Tables {
 #[derive(Drop)]
 pub struct RunSpots {
     pub declared: Spots,
-    /// How many files are in it: the first ones, by their descriptors without custom options.
+    /// How many files are in it: the first ones.
     pub files: u32,
 }
 
@@ -53,9 +52,9 @@ pub fn add_next(
     loaded: &LoadedFiles,
     own: &FileDescriptorProto,
 ) -> Result<(), AllocError>
-    requires begins { IndexBegins spots.old (map plain_in loaded.now.entries) }
+    requires begins { IndexBegins spots.old (map descriptor_in loaded.now.entries) }
     ensures { OnOk result (IsWhole spots.new
-        (plains_with loaded.now.entries (described.file_view own.now))) }
+        (descriptors_with loaded.now.entries (described.file_view own.now))) }
 {
     'files: while spots.files < loaded.len() {
         add_loaded(spots, alloc, loaded)?;
@@ -68,26 +67,16 @@ pub fn add_next(
 
 /// Adds the first loaded file that isn't in it.
 fn add_loaded(spots: &mut RunSpots, alloc: Global, loaded: &LoadedFiles) -> Result<(), AllocError>
-    requires begins { IndexBegins spots.old (map plain_in loaded.now.entries) }
+    requires begins { IndexBegins spots.old (map descriptor_in loaded.now.entries) }
     requires more { spots.old.files < length loaded.now.entries }
     requires room { spots.old.files < 2 ^ 31 }
-    ensures begins { OnOk result (IndexBegins spots.new (map plain_in loaded.now.entries)) }
+    ensures begins { OnOk result (IndexBegins spots.new (map descriptor_in loaded.now.entries)) }
     ensures files { OnOk result (spots.new.files ≡ spots.old.files + 1) }
 {
     let number = spots.files;
     if let Some((_, file)) = loaded.at(number) {
-        spots.declared.add(alloc, number, plain_of(file))?;
+        spots.declared.add(alloc, number, &file.descriptor)?;
         spots.files = number + 1;
     }
     Ok(())
-}
-
-/// A loaded file's descriptor without custom options.
-pub fn plain_of(file: &LoadedFile) -> &FileDescriptorProto
-    ensures { described.file_view result.now ≡ plain_or file.now.plain file.now.descriptor }
-{
-    match &file.plain {
-        Some(plain) => plain,
-        None => &file.descriptor,
-    }
 }

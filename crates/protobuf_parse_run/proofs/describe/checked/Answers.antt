@@ -6,8 +6,9 @@ use Rattle.protobuf_parse_model.specs.Descriptors.{FileDescriptor}
 use Rattle.protobuf_parse_model.specs.Faults.{fault_view, found}
 use Rattle.protobuf_parse_model.specs.Linking.{link_faults}
 use Rattle.protobuf_parse_model.specs.Tables.{picked}
-use Rattle.protobuf_parse_run.specs.Loading.{has_faults, own_over, plains_over}
-use Rattle.protobuf_parse_run.specs.Loading.{plains_with, report_over}
+use Rattle.protobuf_parse_options.specs.WithoutOptions.{bare_file}
+use Rattle.protobuf_parse_run.specs.Loading.{has_faults, own_over, descriptors_over}
+use Rattle.protobuf_parse_run.specs.Loading.{descriptors_with, report_over}
 use Rattle.protobuf_parse_run.specs.Run.{is_nothing}
 use Rattle.protobuf_parse_run.proofs.Spelling.{nothing-is, report-same}
 use Rattle.protobuf_parse_run.proofs.describe.checked.Goals as goal
@@ -18,7 +19,7 @@ returns-clause-describes c files told =
     let t = file_syntax c.args.tree in
     let reach = c.args.sights.now.reach.items in
     let sight = c.args.sights.now.sight.items in
-    let plains = plains_over loaded files sight c.args.path.now t in
+    let descriptors = descriptors_over loaded files sight c.args.path.now t in
     let below = list_any (λ (n : ℕ). has_faults (slice_get loaded n)) reach in
     let linked : link_faults (picked files reach)
     ≡ [] = ((rw c.deref-2.ensures.value at c.in_ok-link.ensures) files told).0 in
@@ -35,11 +36,11 @@ returns-clause-describes c files told =
     record {
       faultless = linked;
       descriptor = λ runs. cc;
-      plain = value;
+      alike = ap bare_file value;
       faulty = faulty;
       told = further
-          ∙ ap (λ (d : FileDescriptor). report_over files (plains_with loaded d) reach sight below
-          t) value
-          ∙ sym (report-same files plains reach sight t (not c.is_empty-faulty.result) below
+          ∙ ap (λ (d : FileDescriptor). report_over files (descriptors_with loaded d) reach sight
+          below t) value
+          ∙ sym (report-same files descriptors reach sight t (not c.is_empty-faulty.result) below
           faulty);
     }

@@ -4,7 +4,7 @@ use Rattle.protobuf_parse_syntax.specs.Trees.{file_syntax}
 use Rattle.protobuf_parse_model.specs.Descriptors as described
 use Rattle.protobuf_parse_model.specs.Linking.{link_faults}
 use Rattle.protobuf_parse_model.specs.Tables.{picked}
-use Rattle.protobuf_parse_run.specs.Loading.{plain_in}
+use Rattle.protobuf_parse_run.specs.Loading.{descriptor_in}
 use Rattle.protobuf_parse_run.proofs.Catching.{begins-more}
 use Rattle.protobuf_parse_run.proofs.Spelling.{none-set, own-told}
 use Rattle.protobuf_parse_run.proofs.describe.elaborated.Goals as goal
@@ -20,8 +20,8 @@ returns-in_ok-descriptor-clause-describes c files told =
     c.new.ensures.items (sym c.has_custom_option.ensures ∙ c.if-has_custom_option.false) own.0 own.1
 
 pub returns-in_ok-descriptor-clause-begins : goal.returns-in_ok-descriptor-clause-begins
-returns-in_ok-descriptor-clause-begins c =
-    begins-more c.args.tables.now.spots (map plain_in c.args.loaded.now.entries)
+returns-in_ok-descriptor-clause-begins c files told =
+    begins-more c.args.tables.now.spots (map descriptor_in c.args.loaded.now.entries)
     (described.file_view c.in_ok-descriptor.descriptor) c.requires.begins
 
 pub returns-in_err-descriptor-clause-describes : goal.returns-in_err-descriptor-clause-describes

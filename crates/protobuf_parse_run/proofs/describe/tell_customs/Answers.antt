@@ -8,7 +8,7 @@ use Rattle.protobuf_parse_model.specs.Faults.{found}
 use Rattle.protobuf_parse_model.specs.Tables.{picked}
 use Rattle.protobuf_parse_elaboration.specs.FileDescriptor.{environment, file_faults}
 use Rattle.protobuf_parse_options.specs.OptionBytes.{known_customs}
-use Rattle.protobuf_parse_run.specs.Loading.{picked_plains, plains_with}
+use Rattle.protobuf_parse_run.specs.Loading.{picked_descriptors, descriptors_with}
 use Rattle.protobuf_parse_run.proofs.Catching.{listed, picked-seen}
 use Rattle.protobuf_parse_run.proofs.describe.tell_customs.Goals as goal
 
@@ -16,16 +16,18 @@ pub returns : goal.returns
 returns c files told =
     let t = file_syntax c.args.tree in
     let seen = picked files c.args.seen.now.sight.now in
-    let plains = plains_with c.args.loaded.now.entries (described.file_view c.args.plain.now) in
+    let plain = described.file_view c.args.plain.now in
+    let descriptors = descriptors_with c.args.loaded.now.entries plain in
     let reach = c.args.seen.now.reach.now in
     let sight = c.args.seen.now.sight.now in
     let reached = ap listed c.deref.ensures.value
-    ∙ ap (flat_map option_to_list) c.in_ok-reached.ensures ∙ picked-seen plains reach in
+    ∙ ap (flat_map option_to_list) c.in_ok-reached.ensures ∙ picked-seen descriptors reach in
     let visible = ap listed c.deref-2.ensures.value
-    ∙ ap (flat_map option_to_list) c.in_ok-visible.ensures ∙ picked-seen plains sight in
+    ∙ ap (flat_map option_to_list) c.in_ok-visible.ensures ∙ picked-seen descriptors sight in
     let known = c.new-known.ensures
     ∙ ap (λ (ds : List FileDescriptor). known_customs ds (listed c.deref-2.result.now)) reached
-    ∙ ap (λ (ds : List FileDescriptor). known_customs (picked_plains plains reach) ds) visible in
+    ∙ ap (λ (ds : List FileDescriptor). known_customs (picked_descriptors descriptors reach) ds)
+    visible in
     subst (λ (k : Customs). found c.elaborate_all_owned.new.faults
     ≡ found c.args.faults.now ++ file_faults (environment seen k t) t)
     known (c.in_ok-elaborate_all_owned.ensures.faults files told)

@@ -1,11 +1,13 @@
-use Rattle.std.proofs.Common.{ap}
+use Rattle.std.proofs.Common.{◌≡◌, ◌∙◌, ap, sym}
 use Rattle.std.proofs.lemmas.Result.{err_from_is_err_and}
 use Rattle.protobuf_parse_syntax.specs.Trees.{file_syntax}
 use Rattle.protobuf_parse_model.specs.Descriptors as described
 use Rattle.protobuf_parse_model.specs.Descriptors.{FileDescriptor}
-use Rattle.protobuf_parse_run.specs.Loading.{customs_over, plains_with}
-use Rattle.protobuf_parse_run.proofs.Catching.{whole-begins}
-use Rattle.protobuf_parse_run.proofs.Spelling.{customs-told, own-told, some-set}
+use Rattle.protobuf_parse_model.specs.Tables.{picked}
+use Rattle.protobuf_parse_options.specs.WithoutOptions.{bare_file}
+use Rattle.protobuf_parse_run.specs.Loading.{customs_over, descriptors_with}
+use Rattle.protobuf_parse_run.proofs.Catching.{next-alike, whole-alike, whole-begins}
+use Rattle.protobuf_parse_run.proofs.Spelling.{customs-told, options-alike, own-told, some-set}
 use Rattle.protobuf_parse_run.proofs.describe.with_customs.Goals as goal
 
 pub returns-in_err-plain-clause-describes : goal.returns-in_err-plain-clause-describes
@@ -23,13 +25,14 @@ returns-in_err-descriptor-clause-describes c files told linked =
     let reach = c.args.seen.now.reach.now in
     let sight = c.args.seen.now.sight.now in
     let own = c.in_ok-plain.ensures files told in
-    let plains = plains_with loaded (described.file_view c.in_ok-plain.plain) in
-    let same = ap (λ (d : FileDescriptor). customs_over (plains_with loaded d) reach sight) own.1 in
+    let descriptors = descriptors_with loaded (described.file_view c.in_ok-plain.plain) in
+    let same = ap (λ (d : FileDescriptor). customs_over (descriptors_with loaded d) reach sight)
+    own.1 in
     let e = err_from_is_err_and c.from_residual-in_err-descriptor.result
     c.from_residual-in_err-descriptor.ensures.1 in
     rw (e.1, e.2)
     (customs-told loaded files reach sight c.args.path.now (file_syntax c.args.tree) linked
-    (customs_over plains reach sight) c.in_err-descriptor.field-0.0 same own.0
+    (customs_over descriptors reach sight) c.in_err-descriptor.field-0.0 same own.0
     (c.in_err-descriptor.ensures files told))
 
 pub returns-clause-describes : goal.returns-clause-describes
@@ -39,12 +42,27 @@ returns-clause-describes c files told linked =
     let sight = c.args.seen.now.sight.now in
     let own = c.in_ok-plain.ensures files told in
     let whole = c.in_ok-descriptor.ensures files told in
-    let plains = plains_with loaded (described.file_view c.in_ok-plain.plain) in
-    let same = ap (λ (d : FileDescriptor). customs_over (plains_with loaded d) reach sight) own.1 in
+    let descriptors = descriptors_with loaded (described.file_view c.in_ok-plain.plain) in
+    let same = ap (λ (d : FileDescriptor). customs_over (descriptors_with loaded d) reach sight)
+    own.1 in
     some-set loaded files reach sight c.args.path.now (file_syntax c.args.tree) linked
-    (customs_over plains reach sight) c.in_ok-plain.plain c.in_ok-descriptor.descriptor
-    c.new.result c.new.ensures.items same
-    own.0 own.1 whole.0 whole.1
+    (customs_over descriptors reach sight) c.in_ok-descriptor.descriptor
+    c.new.result c.new.ensures.items same own.0 whole.0 whole.1
 
 pub returns-clause-begins : goal.returns-clause-begins
-returns-clause-begins c = whole-begins _ _ c.in_ok-add_next.ensures
+returns-clause-begins c files told =
+    let loaded = c.args.loaded.now.entries in
+    let t = file_syntax c.args.tree in
+    let reach = c.args.seen.now.reach.now in
+    let sight = c.args.seen.now.sight.now in
+    let plain = described.file_view c.in_ok-plain.plain in
+    let whole = described.file_view c.in_ok-descriptor.descriptor in
+    let customs = customs_over (descriptors_with loaded plain) reach sight in
+    let alike : bare_file plain ≡ bare_file whole =
+    ap bare_file (c.in_ok-plain.ensures files told).1
+    ∙ sym (options-alike (picked files sight) customs c.args.path.now t)
+    ∙ ap bare_file (sym (c.in_ok-descriptor.ensures files told).1) in
+    whole-begins c.add_next.new.spots (descriptors_with loaded whole)
+    (whole-alike c.add_next.new.spots (descriptors_with loaded plain)
+    (descriptors_with loaded whole) (next-alike loaded plain whole alike)
+    c.in_ok-add_next.ensures)

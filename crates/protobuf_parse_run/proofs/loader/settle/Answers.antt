@@ -6,7 +6,7 @@ use Rattle.protobuf_parse_model.specs.Descriptors.{FileDescriptor, Text}
 use Rattle.protobuf_parse_run.specs.Run.{StandsInElab, origin_given}
 use Rattle.protobuf_parse_run.specs.Loading.{IndexBegins, Describes, Named, ending_over}
 use Rattle.protobuf_parse_run.specs.Loading.{named_trees}
-use Rattle.protobuf_parse_run.specs.Loading.{plain_in, plains_next, trees_of, with_next}
+use Rattle.protobuf_parse_run.specs.Loading.{descriptor_in, descriptors_next, trees_of, with_next}
 use Rattle.protobuf_parse_run.specs.declared.loader.LoadedFile.{LoadedFile}
 use Rattle.protobuf_parse_run.proofs.Catching.{plains-push}
 use Rattle.protobuf_parse_run.proofs.Numbers.{named-length}
@@ -37,7 +37,6 @@ returns-clause-settles c told none =
       handed_on = sights.handed_on;
       read = c.args.read;
       descriptor = described.descriptor;
-      plain = described.plain;
       faults = described.faults;
       faulty = described.faulty;
     } in
@@ -55,15 +54,15 @@ returns-clause-settles c told none =
       hands_on = c.in_ok-sights.ensures.handed_on;
       faultless = is.faultless;
       descriptor = is.descriptor;
-      plain = is.plain;
+      alike = is.alike;
       faulty = is.faulty;
       told = is.told;
       tells = rw c.in_ok-described.ensures.names tells;
       begins =
           subst (λ (ps : List FileDescriptor). IndexBegins c.descriptor_of.new.loader.tables.spots
           ps)
-          (plains-push loaded (c.args.path, file) ∙ ap (map plain_in) (sym added.0))
-          c.in_ok-described.ensures.begins;
+          (plains-push loaded (c.args.path, file) ∙ ap (map descriptor_in) (sym added.0))
+          (c.in_ok-described.ensures.begins (with_next loaded t) tells);
       height_placed = c.in_ok-placed.ensures.height;
       number_placed = added.1;
     }
@@ -85,7 +84,7 @@ returns-in_err-described-clause-settles c told =
           let stands = subst
           (λ (z : Text). StandsInElab (origin_given z (Some e.outcome))
           (ending_over c.args.gathers (with_next loaded t)
-          (plains_next loaded sights.sight.items z t) sights.reach.items sights.sight.items t)
+          (descriptors_next loaded sights.sight.items z t) sights.reach.items sights.sight.items t)
           c.in_err-described.field-0.0) c.deref.ensures w in
           inl (
             sights.reach.items,
