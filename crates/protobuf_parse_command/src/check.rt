@@ -72,14 +72,20 @@ fn run_over<R: Files + AllocGlobal>(
     told: &mut Vec<Diagnostic>,
 ) -> Result<(RunLog, bool), AllocError> {
     let log = folders.run(alloc, &inputs);
-    match &log.result {
-        Ok(_) => return Ok((log, false)),
-        Err(RunFault::Memory) => return Err(AllocError),
-        Err(_) => (),
+    if log.result.is_ok() {
+        return Ok((log, false));
+    }
+    if ran_out(&log) {
+        return Err(AllocError);
     }
     let mut faults = faults_of(rt, alloc, folders, inputs)?;
     told.append(&mut faults.told)?;
     Ok((folders.run(alloc, &faults.sound), faults.is_cut))
+}
+
+/// Whether memory was short for the run.
+fn ran_out(log: &RunLog) -> bool {
+    matches!(&log.result, Err(RunFault::Memory))
 }
 
 /// The inputs that the files of the command line are, and what is told of those that are none.
