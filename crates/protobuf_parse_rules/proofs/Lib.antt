@@ -4,6 +4,7 @@ pub mod Linking
 pub mod Placing
 pub mod Claiming
 pub mod Keying
+pub mod Slots
 pub mod Naming
 pub mod Packages
 pub mod Declaring
@@ -15,6 +16,8 @@ pub mod Lone
 pub mod Crowding
 pub mod Lite
 pub mod Passing
+pub mod Allowing
+pub mod Alone
 pub mod Apart
 pub mod Fewer
 pub mod Rising

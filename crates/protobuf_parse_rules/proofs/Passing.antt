@@ -28,23 +28,23 @@ use Rattle.protobuf_parse_rules.specs.Violations.{common_rules, field_rules}
 use Rattle.protobuf_parse_rules.specs.declared.rule.Rule.{Rule}
 use Rattle.protobuf_parse_rules.specs.declared.rule.Rule.TheVariants as rule
 
-first : (a b : Bool) → (a && b) ≡ true → a ≡ true
+pub first : (a b : Bool) → (a && b) ≡ true → a ≡ true
 first true b e = refl
 first false b e = absurd cc
 
-second : (a b : Bool) → (a && b) ≡ true → b ≡ true
+pub second : (a b : Bool) → (a && b) ≡ true → b ≡ true
 second true b e = e
 second false b e = absurd cc
 
-untrue : (b : Bool) → not b ≡ true → b ≡ false
+pub untrue : (b : Bool) → not b ≡ true → b ≡ false
 untrue false e = refl
 untrue true e = absurd cc
 
-and_false : (a b : Bool) → b ≡ false → (a && b) ≡ false
+pub and_false : (a b : Bool) → b ≡ false → (a && b) ≡ false
 and_false true b e = e
 and_false false b e = refl
 
-none_is : {X : Type 0} (o : Option X) → is_none o ≡ true → o ≡ None
+pub none_is : {X : Type 0} (o : Option X) → is_none o ≡ true → o ≡ None
 none_is None e = refl
 none_is (Some x) e = absurd cc
 
@@ -53,19 +53,19 @@ nil_is [] e = refl
 nil_is (x ∷ xs) e = absurd cc
 
 -- rules that say nothing are passed over
-abbrev AreSilent : List (Option Broken) → Type 0
+abbrev pub AreSilent : List (Option Broken) → Type 0
 AreSilent os = AllByRecursion (λ o. o ≡ None) os
 
-silent : (site : Site) (os : List (Option Broken)) → AreSilent os → breaches_at site os ≡ []
+pub silent : (site : Site) (os : List (Option Broken)) → AreSilent os → breaches_at site os ≡ []
 silent site [] none = refl
 silent site (o ∷ os) none = ap (λ x. breaches_at site (x ∷ os)) none.0 ∙ silent site os none.1
 
-unbroken : (b : Bool) (r : Rule) → b ≡ false → broken_if b r ≡ None
+pub unbroken : (b : Bool) (r : Rule) → b ≡ false → broken_if b r ≡ None
 unbroken b r e = ap (λ x. broken_if x r) e
 
 -- ---- by the field
 
-other_kind : (t : FieldType) → is_group_or_enum t ≡ false → (is_group t ≡ false) × (is_enum t ≡ false)
+pub other_kind : (t : FieldType) → is_group_or_enum t ≡ false → (is_group t ≡ false) × (is_enum t ≡ false)
 other_kind kind.Group e = absurd cc
 other_kind kind.Enum e = absurd cc
 other_kind kind.Double e = (refl, refl)
@@ -86,7 +86,7 @@ other_kind kind.Sint32 e = (refl, refl)
 other_kind kind.Sint64 e = (refl, refl)
 
 module _ (all : List Place) (f : FieldDescriptor) where
-  no_enum : (r : NamedEnum → Option Broken) → is_enum f.type_ ≡ false → of_enum all r f ≡ None
+  pub no_enum : (r : NamedEnum → Option Broken) → is_enum f.type_ ≡ false → of_enum all r f ≡ None
   no_enum r e = ap (λ b. option_and_then r
       (if b then option_and_then (enum_named all) f.type_name else None)) e
 
@@ -135,7 +135,7 @@ module _ (all : List Place) (f : FieldDescriptor) where
 -- ---- by the message
 
 module _ (all : List Place) (content : Content) (f : FieldDescriptor) where
-  no_map_value : (o : Option NamedEnum) → is_entry content ≡ false
+  pub no_map_value : (o : Option NamedEnum) → is_entry content ≡ false
       → option_and_then (map_value content f) o ≡ None
   no_map_value None e = refl
   no_map_value (Some x) e =

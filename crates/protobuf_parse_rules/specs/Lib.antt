@@ -31,6 +31,7 @@ pub mod Held
 pub mod Known
 pub mod KnownNames
 pub mod Ordinary
+pub mod Asking
 pub mod Keys
 pub mod Crowds
 pub mod Ascending

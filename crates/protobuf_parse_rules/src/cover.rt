@@ -105,7 +105,11 @@ impl Cover {
             → AreEnds has ranges self.now.firsts.items self.now.lasts.items
             → result ≡ count_by (has number.now) ranges }
     {
-        self.begun(number) - self.ended(number)
+        let begun = self.begun(number);
+        if begun == 0 {
+            return 0;
+        }
+        begun - self.ended(number)
     }
 
     fn begun(&self, number: &i32) -> usize

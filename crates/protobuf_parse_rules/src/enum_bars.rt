@@ -158,6 +158,9 @@ fn check_one_reserved<'b>(
         ++ spec.value_breaches body.now.file.now (string_bytes body.now.scope)
         (enum_view bars.now.each.now) (enum_value_view value.now)) }
 {
+    if !bars.reserves(&value.number) && !bars.names.contains(&value.name) {
+        return Ok(());
+    }
     let found = [
         reserved_number(&value.number, bars),
         reserved_name(&value.name, bars),

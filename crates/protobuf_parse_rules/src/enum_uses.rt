@@ -37,7 +37,7 @@ fn enum_of_field<'t, 'a>(
     }
 }
 
-fn is_enum(type_: FieldType) -> bool
+pub fn is_enum(type_: FieldType) -> bool
     ensures { result ≡ spec.is_enum type_ }
 {
     matches!(type_, FieldType::Enum)

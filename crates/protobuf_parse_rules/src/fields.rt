@@ -17,7 +17,7 @@ use crate::field_options::{js_type_option, lazy_option, packed_option};
 use crate::limits::limit;
 use crate::maps::key_type;
 use crate::message_sets::field_of_set;
-use crate::ordinary::{bars_nothing, has_allowed_number, is_ordinary};
+use crate::ordinary::{allows, bars_nothing, has_allowed_number, is_common, is_ordinary};
 use crate::places::Body;
 use crate::proto3::{default_field, extended, group_field, required_field};
 use crate::ranges::{kept_number, reserved_name, reserved_number};
@@ -75,6 +75,25 @@ fn check_in_message<'a>(
         (field_rules all (content_view bars.now.body.now.holds) (field_view field.now))) }
 {
     if bars_nothing(bars) && has_allowed_number(field) {
+        return Ok(());
+    }
+    check_allowed(alloc, told, tables, bars, field)
+}
+
+/// Tells the same where the message bars something.
+fn check_allowed<'a>(
+    alloc: Global,
+    told: &mut Vec<Violation>,
+    tables: &Tables<'a>,
+    bars: &Bars<'a>,
+    field: &'a FieldDescriptorProto,
+) -> Result<(), AllocError>
+    ensures { OnOk result ((all : List Place) → Knows tables.now all →
+        breaches_told told.new ≡ breaches_told told.old
+        ++ breaches_at (site_in (body_view bars.now.body.now) (field_view field.now).name)
+        (field_rules all (content_view bars.now.body.now.holds) (field_view field.now))) }
+{
+    if allows(bars, field) && has_allowed_number(field) {
         return Ok(());
     }
     check_barred(alloc, told, tables, bars, field)
@@ -179,6 +198,25 @@ fn check_common<'a>(
         (common_rules all body.now.proto3 (field_view field.now))) }
 {
     if is_ordinary(field) {
+        return Ok(());
+    }
+    check_less_ordinary(alloc, told, tables, body, field)
+}
+
+/// Tells the same where the field or the extension has options, say, or a default.
+fn check_less_ordinary<'a>(
+    alloc: Global,
+    told: &mut Vec<Violation>,
+    tables: &Tables<'a>,
+    body: &'a Body<'a>,
+    field: &'a FieldDescriptorProto,
+) -> Result<(), AllocError>
+    ensures { OnOk result ((all : List Place) → Knows tables.now all →
+        breaches_told told.new ≡ breaches_told told.old
+        ++ breaches_at (site_in (body_view body.now) (field_view field.now).name)
+        (common_rules all body.now.proto3 (field_view field.now))) }
+{
+    if is_common(body.proto3, field) {
         return Ok(());
     }
     check_unusual(alloc, told, tables, body, field)

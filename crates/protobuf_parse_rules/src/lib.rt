@@ -3,6 +3,7 @@
 
 mod aliases;
 mod alike;
+mod asking;
 mod bars;
 mod claims;
 mod cover;

@@ -24,7 +24,7 @@ pub fn is_entry(holds: Holds<'_>) -> bool
     }
 }
 
-fn is_no_key(type_: FieldType) -> bool
+pub fn is_no_key(type_: FieldType) -> bool
     ensures { result ≡ spec.is_no_key type_ }
 {
     matches!(

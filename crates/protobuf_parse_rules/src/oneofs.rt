@@ -49,6 +49,23 @@ fn check_among(
         ++ by_position (spec.oneof_breaches body.now.file.now (string_bytes body.now.scope)
         (oneofs_held (map field_view fields.now))) 0 (map oneof_view oneofs.now)) }
 {
+    match oneofs {
+        [] => Ok(()),
+        _ => check_held(alloc, told, body, fields, oneofs),
+    }
+}
+
+fn check_held(
+    alloc: Global,
+    told: &mut Vec<Violation>,
+    body: &Body<'_>,
+    fields: &[FieldDescriptorProto],
+    oneofs: &[OneofDescriptorProto],
+) -> Result<(), AllocError>
+    ensures { OnOk result (breaches_told told.new ≡ breaches_told told.old
+        ++ by_position (spec.oneof_breaches body.now.file.now (string_bytes body.now.scope)
+        (oneofs_held (map field_view fields.now))) 0 (map oneof_view oneofs.now)) }
+{
     let held = numbers_of(alloc, fields)?;
     let marks = marks_of(alloc, &held, oneofs.len())?;
     check_each(alloc, told, body, &marks, oneofs)

@@ -3,7 +3,8 @@
 ghost use Rattle.std.specs.Prelude.{◌≡◌, ◌++◌, [], ◌∷◌, map, OnOk, IfOk, string_bytes, None};
 ghost use Rattle.std.specs.List.{flat_map};
 ghost use Rattle.protobuf_parse_model.specs.Descriptors.{enum_view, field_view, file_view};
-ghost use Rattle.protobuf_parse_model.specs.Descriptors.{extension_range_view, message_view};
+ghost use Rattle.protobuf_parse_model.specs.Descriptors.{extension_range_view, message_parts};
+ghost use Rattle.protobuf_parse_model.specs.Descriptors.{message_view};
 ghost use Rattle.protobuf_parse_model.specs.Descriptors.{reserved_range_view, service_view};
 ghost use Rattle.protobuf_parse_wire.specs.Declarations.{declared_message, name_within};
 ghost use Rattle.protobuf_parse_wire.specs.Declarations.{package_scope};
@@ -17,7 +18,7 @@ ghost use Rattle.protobuf_parse_rules.specs.Places.{reserved_names};
 ghost use Rattle.protobuf_parse_rules.specs.Places.{reserved_ranges, services_of};
 
 use crate::claims::Holder;
-use crate::finding::Spot;
+use crate::finding::{Spot, full_name};
 use protobuf_parse_model::{
     DescriptorProto, EnumDescriptorProto, ExtensionRange, FieldDescriptorProto,
     FileDescriptorProto, ReservedRange, ServiceDescriptorProto,
@@ -264,12 +265,33 @@ fn add_message<'a>(
         ++ map (message_place path.now proto3)
         (declared_message scope.now (message_view message.now))) }
 {
-    let name = format!(in alloc; "{scope}.{}", message.name)?;
+    let name = full_name(alloc, scope, &message.name)?;
+    if message.nested_type.is_empty() {
+        return add_one(bodies, path, proto3, name, message);
+    }
+    add_one(bodies, path, proto3, name.clone()?, message)?;
+    add_messages(alloc, bodies, path, proto3, &name, &message.nested_type)
+}
+
+/// The message that has the full name, without those inside it.
+fn add_one<'a>(
+    bodies: &mut Vec<Body<'a>>,
+    path: &'a str,
+    proto3: bool,
+    name: String,
+    message: &'a DescriptorProto,
+) -> Result<(), AllocError>
+    ensures { OnOk result (map body_view bodies.new.items ≡ map body_view bodies.old.items
+        ++ map (message_place path.now proto3) (record {
+          name = string_bytes name;
+          parts = message_parts message.now;
+        } ∷ [])) }
+{
     bodies.push(Body {
         file: path,
         proto3,
-        scope: name.clone()?,
+        scope: name,
         holds: Holds::Message(message),
     })?;
-    add_messages(alloc, bodies, path, proto3, &name, &message.nested_type)
+    Ok(())
 }

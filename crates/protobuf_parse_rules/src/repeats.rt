@@ -26,6 +26,22 @@ pub fn check_repeats<'b>(
     ensures { OnOk result (breaches_told told.new ≡ breaches_told told.old
         ++ repeats rule (site_of at.entry) (map string_bytes texts.now)) }
 {
+    match texts {
+        [] | [_] => Ok(()),
+        _ => check_several(alloc, told, at, rule, texts),
+    }
+}
+
+fn check_several<'b>(
+    alloc: Global,
+    told: &mut Vec<Violation>,
+    at: Spot<'b>,
+    rule: Rule,
+    texts: &'b [String],
+) -> Result<(), AllocError>
+    ensures { OnOk result (breaches_told told.new ≡ breaches_told told.old
+        ++ repeats rule (site_of at.entry) (map string_bytes texts.now)) }
+{
     let keys = keys_of(alloc, texts)?;
     if are_apart(keys) {
         return Ok(());

@@ -17,7 +17,7 @@ use crate::finding::full_name;
 use crate::keys::keyed;
 use crate::known::{KnownEnum, KnownMessage, enum_with, message_with};
 use crate::places::{Body, Holds};
-use crate::uses::{Uses, uses_of};
+use crate::uses::{Uses, no_uses, uses_of};
 use protobuf_parse_model::EnumDescriptorProto;
 use std::alloc::{AllocError, Global};
 use std::collections::BTreeMap;
@@ -78,6 +78,24 @@ impl<'a> Tables<'a> {
             ≡ enum_named all name.now }
     {
         self.types.enumeration(name)
+    }
+}
+
+/// Those of no files.
+pub fn no_tables<'a>(alloc: Global) -> Tables<'a>
+    ensures { Knows result [] }
+{
+    let types = no_types(alloc);
+    let uses = no_uses(alloc);
+    Tables { types, uses }
+}
+
+fn no_types<'a>(alloc: Global) -> Types<'a>
+    ensures { KnowsTypes result [] }
+{
+    Types {
+        messages: BTreeMap::new(alloc),
+        enums: BTreeMap::new(alloc),
     }
 }
 

@@ -1,6 +1,6 @@
 //! What files need of each other.
 
-ghost use Rattle.std.specs.Prelude.{◌≡◌, ◌++◌, List, flat_map, map, option_map, IfOk, OnOk};
+ghost use Rattle.std.specs.Prelude.{◌≡◌, ◌++◌, [], List, flat_map, map, option_map, IfOk, OnOk};
 ghost use Rattle.protobuf_parse_rules.specs.Customs.{are_any};
 ghost use Rattle.protobuf_parse_rules.specs.Imports as spec;
 ghost use Rattle.protobuf_parse_rules.specs.Imports.{extending_path, setting_path};
@@ -18,7 +18,7 @@ use crate::runtimes::{KnownFile, file_with, files_of};
 use crate::tables::Types;
 use crate::words::Words;
 use std::alloc::{AllocError, Global};
-use std::collections::BTreeMap;
+use std::collections::{BTreeMap, BTreeSet};
 
 /// What is known of files where their imports are looked at.
 #[derive(Drop)]
@@ -72,6 +72,18 @@ impl<'a> Uses<'a> {
             result ≡ spec.may_set all from.now to.now }
     {
         self.extending.contains(to) && self.setting.contains(from)
+    }
+}
+
+/// Those of no files.
+pub fn no_uses<'a>(alloc: Global) -> Uses<'a>
+    ensures { KnowsUses result [] }
+{
+    Uses {
+        files: BTreeMap::new(alloc),
+        links: BTreeSet::new(alloc),
+        setting: Words::of(Vec::new(alloc)),
+        extending: Words::of(Vec::new(alloc)),
     }
 }
 

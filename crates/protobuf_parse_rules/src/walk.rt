@@ -21,6 +21,7 @@ ghost use Rattle.protobuf_parse_rules.specs.Violations.{site_of_place};
 ghost use Rattle.protobuf_parse_rules.specs.declared.rule.Rule.TheVariants as rule;
 
 use crate::alike::check_fields_alike;
+use crate::asking::any_asks;
 use crate::bars::{Bars, bars_of};
 use crate::claims::Holders;
 use crate::enums::check_enum;
@@ -37,7 +38,7 @@ use crate::ranges::{check_extension_ranges, check_reserved_ranges};
 use crate::repeats::check_repeats;
 use crate::rule::Rule;
 use crate::runtimes::{Declared, check_runtimes, files_of, have_lite};
-use crate::tables::{Tables, enums_of, tables_of};
+use crate::tables::{Tables, enums_of, no_tables, tables_of};
 use crate::tell::tell_each;
 use crate::violation::Violation;
 use protobuf_parse_model::{EnumDescriptorProto, FileDescriptorProto};
@@ -106,8 +107,20 @@ fn violations_by_body<'a>(
     ensures { IfOk result (λ v. breaches_told v
         ≡ breaches_after (map body_view bodies.now) [] (map body_view bodies.now)) }
 {
+    if !any_asks(bodies) {
+        return violations_alone(alloc, bodies);
+    }
     let enums = enums_of(alloc, bodies)?;
     let tables = tables_of(alloc, bodies, &enums)?;
+    violations_by(alloc, &tables, bodies)
+}
+
+/// Those of each body, where it needs to know nothing of others.
+fn violations_alone<'a>(alloc: Global, bodies: &'a [Body<'a>]) -> Result<Vec<Violation>, AllocError>
+    ensures { IfOk result (λ v. breaches_told v
+        ≡ breaches_after [] [] (map body_view bodies.now)) }
+{
+    let tables = no_tables(alloc);
     violations_by(alloc, &tables, bodies)
 }
 
@@ -305,6 +318,9 @@ fn check_itself(alloc: Global, told: &mut Vec<Violation>, body: &Body<'_>) -> Re
         ++ breaches_at (site_of_place (body_view body.now))
         (own_rules body.now.proto3 (content_view body.now.holds))) }
 {
+    if !body.proto3 {
+        return Ok(());
+    }
     let found = [
         ranges_kept(body.proto3, body.holds),
         set_in_proto3(body.proto3, body.holds),

@@ -35,7 +35,7 @@ impl<'a> Words<'a> {
 pub fn words_of<'a>(alloc: Global, texts: &'a [String]) -> Result<Words<'a>, AllocError>
     ensures { IfOk result (λ w. AreTexts w.sorted.items (map string_bytes texts.now)) }
 {
-    let mut words = Vec::new(alloc);
+    let mut words = Vec::with_capacity(alloc, texts.len())?;
     'texts: for text in texts {
         words.push(text.as_str())?;
     }

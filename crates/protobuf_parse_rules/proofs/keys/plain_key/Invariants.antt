@@ -1,8 +1,11 @@
--- The key so far is that of the bytes so far.
-use Rattle.std.proofs.Common.{◌≡◌, take}
+-- The key so far becomes that of the whole name by the bytes that are left.
+use Rattle.std.proofs.Common.{◌≡◌, length}
 use Rattle.std.specs.List.{fold}
 use Rattle.protobuf_parse_rules.specs.Keys.{no_text, plain_mixed}
 use Rattle.protobuf_parse_rules.proofs.keys.plain_key.Given as goal
 
-abbrev pub invariant-bytes : goal.invariant-bytes
-invariant-bytes l = l.key ≡ fold plain_mixed no_text (take l.byte-index l.bytes)
+abbrev pub invariant-rest : goal.invariant-rest
+invariant-rest l = fold plain_mixed l.key l.rest ≡ fold plain_mixed no_text l.name
+
+abbrev pub decreases-rest : goal.decreases-rest
+decreases-rest l = length l.rest

@@ -3,7 +3,7 @@ use Rattle.std.proofs.lemmas.Result.{on_ok_weaker}
 use Rattle.protobuf_parse_model.specs.Descriptors.{field_view}
 use Rattle.protobuf_parse_rules.specs.Marks.{Marks}
 use Rattle.protobuf_parse_rules.specs.Oneofs.{oneofs_held}
-use Rattle.protobuf_parse_rules.proofs.oneofs.check_among.Goals as goal
+use Rattle.protobuf_parse_rules.proofs.oneofs.check_held.Goals as goal
 
 pub returns : goal.returns
 returns c =
