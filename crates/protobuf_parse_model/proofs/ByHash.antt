@@ -5,7 +5,7 @@ use Rattle.std.proofs.Common.{◌<◌, ◌≤◌, ◌-◌, arith, get_or, length
 use Rattle.std.specs.Prelude.{String, string_bytes, IsSome}
 use Rattle.std.specs.Cmp.Lexicographic.{slice_cmp}
 use Rattle.std.specs.Global.{Global, Vec}
-use Rattle.std.specs.BTreeMap.{BTreeMap, Updates, get, get_by_text, is_at}
+use Rattle.std.specs.BTreeMap.{BTreeMap, Updates, get, is_at}
 use Rattle.std.specs.Map.{lookup}
 use Rattle.std.specs.Ordering.{nat_cmp, is_eq}
 use Rattle.std.proofs.lemmas.Bool.{false≢true}
