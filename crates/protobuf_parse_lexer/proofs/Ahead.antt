@@ -447,4 +447,5 @@ pub advanced : (before later : Tokenizer)
     → ((s : Stream) → LiesAhead before s → LiesAhead later (behind s))
     → lies_ahead later ≡ behind (lies_ahead before)
 advanced before later h =
-    lies_ahead_only later (behind (lies_ahead before)) (h (lies_ahead before) (lies_ahead_is before))
+    lies_ahead_only later (behind (lies_ahead before))
+    (h (lies_ahead before) (lies_ahead_is before))

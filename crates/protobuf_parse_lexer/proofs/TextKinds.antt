@@ -124,7 +124,8 @@ integer_there c radix v ds each e small =
 pub integer_lacks : (c : ByteClass) (radix : ℕ) (ds : Bytes) (k : ℕ) → k < length ds
     → is_in c (get_or ds k 0) ≡ false → integer_kind c radix ds ≡ kind.Float
 integer_lacks c radix ds k less h =
-    by_none (list_all (is_in c) ds) (nat_lt (digits_value radix ds) (2 ^ 64)) (digits_value radix ds)
+    by_none (list_all (is_in c) ds) (nat_lt (digits_value radix ds) (2 ^ 64))
+    (digits_value radix ds)
     (list_all_at (is_in c) ds k 0 less h)
 
 abbrev number_by : Bool → Bool → TokenKind → TokenKind → TokenKind → TokenKind
@@ -483,7 +484,8 @@ closing_yes w p h =
     ]
 
 -- a text is an opening bracket just where it is one byte
-pub opening_first : (w : Bytes) → is_opening (kind_of w) ≡ (eqb (length w) 1 && opens (get_or w 0 0))
+pub opening_first : (w : Bytes) → is_opening (kind_of w)
+    ≡ (eqb (length w) 1 && opens (get_or w 0 0))
 opening_first w =
     elim (true_or_false (is_single w && opens (get_or w 0 0))) [
       | inl h ↦
@@ -491,12 +493,14 @@ opening_first w =
           opening_yes w p.0 p.1 ∙ sym h
       | inr h ↦
           symbol_first is_opening w
-          (λ c r ds. either is_opening (list_all (is_in c) ds && nat_lt (digits_value r ds) (2 ^ 64))
+          (λ c r ds. either is_opening (list_all (is_in c) ds && nat_lt (digits_value r ds)
+          (2 ^ 64))
           (digits_value r ds) refl refl) refl refl refl h ∙ sym h
     ]
 
 -- a text is a closing bracket just where it is one byte
-pub closing_first : (w : Bytes) → is_closing (kind_of w) ≡ (eqb (length w) 1 && closes (get_or w 0 0))
+pub closing_first : (w : Bytes) → is_closing (kind_of w)
+    ≡ (eqb (length w) 1 && closes (get_or w 0 0))
 closing_first w =
     elim (true_or_false (is_single w && closes (get_or w 0 0))) [
       | inl h ↦
@@ -504,6 +508,7 @@ closing_first w =
           closing_yes w p.0 p.1 ∙ sym h
       | inr h ↦
           symbol_first is_closing w
-          (λ c r ds. either is_closing (list_all (is_in c) ds && nat_lt (digits_value r ds) (2 ^ 64))
+          (λ c r ds. either is_closing (list_all (is_in c) ds && nat_lt (digits_value r ds)
+          (2 ^ 64))
           (digits_value r ds) refl refl) refl refl refl h ∙ sym h
     ]

@@ -20,7 +20,8 @@ use Rattle.protobuf_parse_lexer.specs.Decoding.{HasEscape, HasNoEscape, IsPart, 
 use Rattle.protobuf_parse_lexer.specs.Decoding.{meaning_bytes}
 use Rattle.protobuf_parse_lexer.specs.Text.{Bytes, is_in, AllIn, RunStopsAt}
 use Rattle.protobuf_parse_lexer.specs.Tokens.{letter_byte, IsDigits, IsEscape, letter, Decodes}
-use Rattle.protobuf_parse_lexer.specs.Tokens.{done, plain, escape, DecodesAll, none, piece, StandsFor}
+use Rattle.protobuf_parse_lexer.specs.Tokens.{done, plain, escape, DecodesAll, none, piece}
+use Rattle.protobuf_parse_lexer.specs.Tokens.{StandsFor}
 use Rattle.protobuf_parse_lexer.specs.declared.lexer.bytes.ByteClass.{ByteClass}
 use Rattle.protobuf_parse_lexer.specs.declared.lexer.bytes.ByteClass.TheVariants as class
 use Rattle.protobuf_parse_lexer.specs.declared.lexer.str_lit.Meaning.TheVariants as meaning

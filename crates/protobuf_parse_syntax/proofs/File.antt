@@ -1,7 +1,8 @@
 -- What the reader of a file gives, said of the grammar.
 use Rattle.std.proofs.Common.{◌≡◌, ℕ, ◌+◌, List, [], ◌∷◌, ◌++◌, true, false, add-zero}
 use Rattle.std.proofs.Common.{refl, sym, ap, subst, ◌∙◌, inl, inr, ◌⊎◌}
-use Rattle.protobuf_parse_base.specs.Readers.{deep, Rest, end, token, onto, onto-append, read, stuck}
+use Rattle.protobuf_parse_base.specs.Readers.{deep, Rest, end, token, onto, onto-append, read}
+use Rattle.protobuf_parse_base.specs.Readers.{stuck}
 use Rattle.protobuf_parse_base.specs.Readers.{wrong, Begins, starts}
 use Rattle.protobuf_parse_base.specs.Relations.{BeginsOtherwise}
 use Rattle.protobuf_parse_lexer.specs.Tokens.{Lexeme}

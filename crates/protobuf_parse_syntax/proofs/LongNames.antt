@@ -381,7 +381,8 @@ module _ (n : ℕ) (e : Refusal) (ts vs ws us after : Rest Lexeme Place) (name :
         let c = parse.field_number.sound ws number us num in
         fails_options (nest.after_type_parts n place label type_).low n e ts us after
         a.used b.used c.used number
-        (λ options us'. bind ((parse.symbol char.semicolon).run us') (λ v vs'. read (tree.field (record {
+        (λ options us'. bind ((parse.symbol char.semicolon).run us')
+        (λ v vs'. read (tree.field (record {
           place = place;
           label = label;
           type_ = type_;

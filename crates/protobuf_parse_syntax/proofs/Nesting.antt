@@ -487,7 +487,8 @@ unfolding IsExtensionsIn
 extensions_in Proto2 = extensions
 extensions_in Proto3 = never
 
-pub message_statement : {n : ℕ} (syntax : Syntax) (d : ℕ) {M : List Lexeme → MessageSyntax → Type 0} →
+pub message_statement : {n : ℕ} (syntax : Syntax)
+    (d : ℕ) {M : List Lexeme → MessageSyntax → Type 0} →
     Keeps n n M (MessageIn n) → Keeps n n (MessageStatementOf syntax d M) (StatementIn n)
 unfolding MessageStatementOf
 message_statement {n = n} syntax d m =

@@ -16,7 +16,8 @@ use Rattle.protobuf_parse_lexer.specs.Text.{Bytes}
 use Rattle.protobuf_parse_base.specs.Characters as char
 use Rattle.protobuf_parse_lexer.specs.Tokens.{Lexeme, DecodesAll, StandsFor, unquoted}
 use Rattle.protobuf_parse_lexer.specs.Classes.{Class, sees, symbol, word, ident, integer}
-use Rattle.protobuf_parse_lexer.specs.Classes.{text as string_token, is_ident_token, is_one_of, words}
+use Rattle.protobuf_parse_lexer.specs.Classes.{text as string_token, is_ident_token, is_one_of}
+use Rattle.protobuf_parse_lexer.specs.Classes.{words}
 use Rattle.protobuf_parse_lexer.specs.declared.lexer.token.Place.{Place}
 use Rattle.protobuf_parse_lexer.specs.declared.lexer.token.TokenKind.{TokenKind}
 use Rattle.protobuf_parse_lexer.specs.declared.lexer.token.TokenKind.TheVariants as kind

@@ -1,5 +1,6 @@
 -- What is promised of a file's tokens, and of its text.
-use Rattle.std.specs.Prelude.{◌≡◌, ◌<◌, ◌⊎◌, ℕ, List, [], ◌∷◌, ◌++◌, length, Some, true, false, codes}
+use Rattle.std.specs.Prelude.{◌≡◌, ◌<◌, ◌⊎◌, ℕ, List, [], ◌∷◌, ◌++◌, length, Some, true, false}
+use Rattle.std.specs.Prelude.{codes}
 use Rattle.std.specs.Prelude.{Result, MatchResult}
 use Rattle.protobuf_parse_base.specs.Paths.{path_fault}
 use Rattle.protobuf_parse_base.specs.Relations.{Rel, Many, Nothing, BeginsOtherwise, StopsAt}

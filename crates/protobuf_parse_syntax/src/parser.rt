@@ -35,10 +35,10 @@ use crate::tree::FileTree;
 use protobuf_parse_lexer::{ParserError, ParserErrorWithLocation, Tokenizer, tokenize};
 use std::alloc::Global;
 
-/// How many levels a part may have in which others of its kind stand: a constant, a type, a field or
-/// a message. Each but the innermost has a bracket of its own around what stands in it, and at most
-/// 100 brackets are open inside one another, so no part needs more. With each level the parser's
-/// calls nest deeper, and nowhere else.
+/// How many levels a part may have in which others of its kind stand: a constant, a type, a field
+/// or a message. Each but the innermost has a bracket of its own around what stands in it, and at
+/// most 100 brackets are open inside one another, so no part needs more. With each level the
+/// parser's calls nest deeper, and nowhere else.
 const LEVELS: usize = 101;
 
 /// The tree of a file's text, by the Protocol Buffers Language Specifications (proto2 and proto3).

@@ -31,7 +31,8 @@ pub struct Cursor<'text> {
 impl<'text> Cursor<'text> {
     /// A cursor before the first token.
     pub fn new(tokens: Tokenizer<'text>) -> Cursor<'text>
-        ensures { left result ≡ whole (lies_ahead tokens.entry).tokens (lies_ahead tokens.entry).end }
+        ensures { left result ≡ whole (lies_ahead tokens.entry).tokens
+            (lies_ahead tokens.entry).end }
     {
         Cursor { tokens }
     }

@@ -38,9 +38,8 @@ pub fn message(
     message_of(alloc, tokens, syntax, levels - 1)
 }
 
-/// `message = "message" ident "{" { ";" | reserved | oneof | extend | message | enum | extensions |
-/// option
-/// | field } "}"`
+/// `message = "message" ident "{" { statement } "}"`, where
+/// `statement = ";" | reserved | oneof | extend | message | enum | extensions | option | field`
 #[cycle(message)]
 #[tactic(auto, using(crate::specs::Code::fails_first, crate::proofs::Versions::message_in_runs, crate::proofs::Messages::view_parts))]
 fn message_of(

@@ -10,7 +10,8 @@ ghost use Rattle.protobuf_parse_syntax.specs.ClassLaws.{lexicon};
 ghost use Rattle.protobuf_parse_syntax.specs.Productions as read;
 ghost use Rattle.protobuf_parse_syntax.specs.Trees as view;
 ghost use Rattle.protobuf_parse_syntax.specs.Code.{left, Gives, GivesOr, TooMany, LongName};
-ghost use Rattle.protobuf_parse_syntax.specs.Code.{AreEarlier, IsCommaAlone, IsListFront, LongBehind};
+ghost use Rattle.protobuf_parse_syntax.specs.Code.{AreEarlier, IsCommaAlone, IsListFront};
+ghost use Rattle.protobuf_parse_syntax.specs.Code.{LongBehind};
 ghost use Rattle.protobuf_parse_syntax.specs.Code.{begins_part};
 ghost use Rattle.protobuf_parse_syntax.specs.Nested as nest;
 
