@@ -6,6 +6,8 @@ pub mod FileOrder
 pub mod Tables
 pub mod ByHash
 pub mod Picks
+pub mod Counting
 pub mod Links
+pub mod LastDeclared
 pub mod DeclaredLevels
 pub mod Sights

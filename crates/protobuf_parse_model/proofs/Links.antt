@@ -43,18 +43,12 @@ use Rattle.protobuf_parse_model.specs.Tables.{name_list}
 use Rattle.protobuf_parse_model.specs.Tables.{name_faults, picked, twice_when}
 use Rattle.protobuf_parse_model.specs.Tables.{times, times_declared, type_entry}
 use Rattle.protobuf_parse_model.proofs.Blaming.{among_left, among_right}
+use Rattle.protobuf_parse_model.proofs.Counting as counting
+use Rattle.protobuf_parse_model.proofs.Counting.{counted-append}
 use Rattle.protobuf_parse_model.proofs.FileOrder.{contains_number}
 use Rattle.protobuf_parse_model.proofs.Picks.{among, picked_among}
 
 -- ---- how often a name is declared
-
-same_as : (x y : Text) (b : Bool) → bytes_eq x y ≡ b → bytes_eq y x ≡ b
-same_as x y true e = (bytes_eq-Decides y x).1 (sym ((bytes_eq-Decides x y).0 e))
-same_as x y false e = at (bytes_eq y x) refl
-  where
-    at : (b : Bool) → bytes_eq y x ≡ b → bytes_eq y x ≡ false
-    at false h = h
-    at true h = let both = (bytes_eq-Decides x y).1 (sym ((bytes_eq-Decides y x).0 h)) in absurd cc
 
 occurrences-append : (name : Text) (xs ys : List Text)
     → occurrences name (xs ++ ys) ≡ occurrences name xs + occurrences name ys
@@ -67,57 +61,20 @@ module _ (extension : Bool) (reach : List ℕ) (name : Text) where
 
   times-append : (xs ys : List Declaration)
       → times extension reach (xs ++ ys) ≡ times extension reach xs + times extension reach ys
-  times-append xs ys = ap length (filter-append counts xs ys)
-      ∙ length-append (filter counts xs) (filter counts ys)
+  times-append xs ys = counted-append counts name xs ys
 
-  module _ {A : Type 0} (entry : A → Entry) (n : ℕ) where
-    abbrev made : A → Declaration
-    made d = record { file = n; kind = (entry d).what }
+  -- each counts
+  all : {A : Type 0} (entry : A → Entry) (n : ℕ)
+      → ((d : A) → counts (record { file = n; kind = (entry d).what }) ≡ true) → (ds : List A)
+      → times extension reach (declared_by entry name n ds)
+      ≡ occurrences name (map (λ (d : A). (entry d).name) ds)
+  all entry n each ds = counting.all counts name entry n each ds
 
-    abbrev is_named : A → Bool
-    is_named d = bytes_eq (entry d).name name
-
-    abbrev names : List A → List Text
-    names ds = map (λ (d : A). (entry d).name) ds
-
-    -- each counts
-    all : ((d : A) → counts (made d) ≡ true) → (ds : List A)
-        → times extension reach (declared_by entry name n ds) ≡ occurrences name (names ds)
-    all each [] = refl
-    all each (d ∷ ds) = at (is_named d) refl (all each ds)
-      where
-        at : (c : Bool) → is_named d ≡ c
-            → times extension reach (declared_by entry name n ds) ≡ occurrences name (names ds)
-            → times extension reach
-            (map made (cond c (d ∷ filter is_named ds) (filter is_named ds)))
-            ≡ occurrences name (names (d ∷ ds))
-        at false e more = more
-            ∙ ap (λ b.
-            length (cond b ((entry d).name ∷ filter (bytes_eq name) (names ds))
-            (filter (bytes_eq name) (names ds)))) (sym (same_as (entry d).name name false e))
-        at true e more =
-            ap (λ b.
-            length (cond b (made d ∷ filter counts (declared_by entry name n ds))
-            (filter counts (declared_by entry name n ds)))) (each d)
-            ∙ ap suc more
-            ∙ ap (λ b.
-            length (cond b ((entry d).name ∷ filter (bytes_eq name) (names ds))
-            (filter (bytes_eq name) (names ds)))) (sym (same_as (entry d).name name true e))
-
-    -- none counts
-    none : ((d : A) → counts (made d) ≡ false) → (ds : List A)
-        → times extension reach (declared_by entry name n ds) ≡ 0
-    none each [] = refl
-    none each (d ∷ ds) = at (is_named d) (none each ds)
-      where
-        at : (c : Bool) → times extension reach (declared_by entry name n ds) ≡ 0
-            → times extension reach
-            (map made (cond c (d ∷ filter is_named ds) (filter is_named ds))) ≡ 0
-        at false more = more
-        at true more =
-            ap (λ b.
-            length (cond b (made d ∷ filter counts (declared_by entry name n ds))
-            (filter counts (declared_by entry name n ds)))) (each d) ∙ more
+  -- none counts
+  none : {A : Type 0} (entry : A → Entry) (n : ℕ)
+      → ((d : A) → counts (record { file = n; kind = (entry d).what }) ≡ false) → (ds : List A)
+      → times extension reach (declared_by entry name n ds) ≡ 0
+  none entry n each ds = counting.none counts name entry n each ds
 
 -- the names of extensions in a file, or else those of types
 abbrev names_in : Bool → FileSyntax → List Text

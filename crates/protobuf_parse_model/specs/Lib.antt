@@ -15,3 +15,4 @@ pub mod Linking
 pub mod FileOrder
 pub mod Tables
 pub mod OptionTables
+pub mod LastDeclared

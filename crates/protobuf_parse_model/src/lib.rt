@@ -2,6 +2,7 @@
 #![tactic(auto)]
 
 mod customs;
+mod declaring;
 mod descriptor;
 mod error;
 mod linking;
@@ -9,6 +10,7 @@ mod made_names;
 mod scope;
 
 pub use customs::{Construct, CustomOptions, WithoutCustoms, path_text};
+pub use declaring::last_declared;
 pub use descriptor::{
     CType, DescriptorProto, EnumDescriptorProto, EnumOptions, EnumReservedRange,
     EnumValueDescriptorProto, EnumValueOptions, ExtensionRange, FieldDescriptorProto, FieldOptions,

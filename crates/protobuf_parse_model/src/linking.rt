@@ -18,7 +18,7 @@ use protobuf_parse_lexer::Place;
 use std::alloc::Global;
 
 /// Where a file begins.
-const BEGINNING: Place = Place { line: 1, col: 1 };
+pub const BEGINNING: Place = Place { line: 1, col: 1 };
 
 /// Refuses a full name that the files that are reached declare more than once.
 ///
@@ -153,7 +153,7 @@ fn times_by_file(seen: &Seen<'_>, declarations: &[Declaration], extension: bool)
 }
 
 /// How many of the declarations are of extensions, or else of types.
-fn number_of(declarations: &[Declaration], extension: bool) -> usize
+pub fn number_of(declarations: &[Declaration], extension: bool) -> usize
     ensures { result ≡ length (filter
         (λ (d : declaration.Declaration). is_of extension d.kind) declarations.now) }
 {

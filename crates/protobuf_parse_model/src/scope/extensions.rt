@@ -30,13 +30,13 @@ pub fn add_extensions<'a>(
         (map statement_syntax statements.now))) }
 {
     for statement in statements {
-        add_in_file(table, alloc, file, scope, statement)?;
+        add_extensions_in(table, alloc, file, scope, statement)?;
     }
     Ok(())
 }
 
 /// Adds those of a statement of a file.
-fn add_in_file<'a>(
+pub fn add_extensions_in<'a>(
     table: &mut Declarations,
     alloc: Global,
     file: u32,

@@ -10,13 +10,13 @@ pub loop-statement-preserved : goal.loop-statement-preserved
 loop-statement-preserved c =
     let within = c.loop-statement.invariant.within in
     let more = subst
-    (λ (s : Scope). Adds generated_entry c.loop-statement.table c.add_in_file.new.table
+    (λ (s : Scope). Adds generated_entry c.loop-statement.table c.add_generated_in.new.table
     c.args.file (statement_generated s (statement_syntax c.statement-item.result))) within
-    c.in_ok-add_in_file.ensures.adds in
+    c.in_ok-add_generated_in.ensures.adds in
     record {
-      within = c.in_ok-add_in_file.ensures.scope ∙ within;
+      within = c.in_ok-add_generated_in.ensures.scope ∙ within;
       adds = adds_next generated_entry c.args.table.now c.loop-statement.table
-          c.add_in_file.new.table c.args.file
+          c.add_generated_in.new.table c.args.file
           (statement_generated (name_texts c.args.scope.now.items)) statement_syntax
           [] c.args.statements.now c.loop-statement.statement-index c.statement-item.result
           c.loop-statement-test.true c.statement-item.is c.loop-statement.invariant.adds more;

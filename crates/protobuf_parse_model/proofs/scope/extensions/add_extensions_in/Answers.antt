@@ -5,7 +5,7 @@ use Rattle.protobuf_parse_model.specs.Declarations.{DeclaredExtension, extend_ex
 use Rattle.protobuf_parse_model.specs.Declarations.{statement_extensions}
 use Rattle.protobuf_parse_model.specs.SeenFiles.{name_texts}
 use Rattle.protobuf_parse_model.specs.Tables.{Adds, extension_entry}
-use Rattle.protobuf_parse_model.proofs.scope.extensions.add_in_file.Goals as goal
+use Rattle.protobuf_parse_model.proofs.scope.extensions.add_extensions_in.Goals as goal
 
 pub returns-in-Extend-clause-adds : goal.returns-in-Extend-clause-adds
 returns-in-Extend-clause-adds c =

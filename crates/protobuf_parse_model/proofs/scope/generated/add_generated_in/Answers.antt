@@ -6,7 +6,7 @@ use Rattle.protobuf_parse_model.specs.Declarations.{generated_by, statement_gene
 use Rattle.protobuf_parse_model.specs.Statements.{groups}
 use Rattle.protobuf_parse_model.specs.SeenFiles.{name_texts}
 use Rattle.protobuf_parse_model.specs.Tables.{Adds, generated_entry}
-use Rattle.protobuf_parse_model.proofs.scope.generated.add_in_file.Goals as goal
+use Rattle.protobuf_parse_model.proofs.scope.generated.add_generated_in.Goals as goal
 
 pub returns-in-Extend-clause-adds : goal.returns-in-Extend-clause-adds
 returns-in-Extend-clause-adds c =
