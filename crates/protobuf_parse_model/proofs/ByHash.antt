@@ -5,7 +5,7 @@ use Rattle.std.proofs.Common.{◌<◌, ◌≤◌, ◌-◌, arith, get_or, length
 use Rattle.std.specs.Prelude.{String, string_bytes, IsSome}
 use Rattle.std.specs.Cmp.Lexicographic.{slice_cmp}
 use Rattle.std.specs.Global.{Global, Vec}
-use Rattle.std.specs.BTreeMap.{BTreeMap, Updates, get, get_by_text, is_at}
+use Rattle.std.specs.BTreeMap.{BTreeMap, Updates, get, is_at}
 use Rattle.std.specs.Map.{lookup}
 use Rattle.std.specs.Ordering.{nat_cmp, is_eq}
 use Rattle.std.proofs.lemmas.Bool.{false≢true}
@@ -14,7 +14,6 @@ use Rattle.std.proofs.lemmas.Map.Text.{btree_map_updates_text}
 use Rattle.std.proofs.lemmas.Slice.Eq.{bytes_eq-Decides}
 use Rattle.std.specs.String.{string_cmp}
 use Rattle.protobuf_parse_model.specs.declared.scope.seen.Declaration.{Declaration}
-use Rattle.protobuf_parse_model.specs.declared.scope.seen.Declared.TheVariants.{Once}
 use Rattle.protobuf_parse_model.specs.declared.scope.seen.DeclaredName.{DeclaredName}
 use Rattle.protobuf_parse_model.specs.declared.scope.seen.OneHash.{OneHash}
 use Rattle.protobuf_parse_model.specs.declared.scope.seen.OneHash.TheVariants.{Name, Names}
@@ -26,12 +25,6 @@ use Rattle.protobuf_parse_model.specs.FileOrder.{FilesAscend, listed}
 use Rattle.protobuf_parse_model.specs.SeenFiles.{declared_as}
 use Rattle.protobuf_parse_model.proofs.FileOrder.{ascend_more}
 use Rattle.protobuf_parse_model.proofs.Tables.{same_number}
-
--- a map that has the same entries
-pub declares_same : (old new : BTreeMap ℕ OneHash) → new.entries ≡ old.entries
-    → (text : Text) → declared_by_hash new text ≡ declared_by_hash old text
-declares_same old new e text =
-    ap (λ es. declared_of (lookup (is_at (nat_cmp (hash_of text))) es) text) e
 
 -- the declaration, where the name is that
 abbrev pub one_more : Text → Declaration → Text → List Declaration
@@ -56,31 +49,12 @@ module _ (old new : BTreeMap ℕ OneHash) (full : Text) (d : Declaration) (names
       ∙ (Decides-eqb (hash_of full) (hash_of text)).1
       (ap hash_of ((bytes_eq-Decides full text).0 is))))
 
-  pub adds_by_hash : AddsByHash old new full d
+  adds_by_hash : AddsByHash old new full d
   adds_by_hash text =
       ap (λ o. declared_of o text) (updates (hash_of text)
       ∙ ap (λ b. cond b (Some names) (get nat_cmp old (hash_of text)))
       (same_number (hash_of full) (hash_of text)))
       ∙ at text (nat_eq (hash_of full) (hash_of text)) (bytes_eq full text) refl refl
-
--- the first name of its hash
-pub adds_first : (old new : BTreeMap ℕ OneHash) (name : String Global) (d : Declaration) (hash : ℕ)
-    → hash ≡ hash_of (string_bytes name) → get nat_cmp old hash ≡ None
-    → Updates nat_cmp old new hash (Some (Name (record { name = name; declared = Once d })))
-    → AddsByHash old new (string_bytes name) d
-adds_first old new name d hash is none updates =
-    let full = string_bytes name in
-    let names = Name (record { name = name; declared = Once d }) in
-    adds_by_hash old new full d names
-    (λ q. updates.0 q
-    ∙ ap (λ h. cond (is_eq (nat_cmp h q)) (Some names) (get nat_cmp old q)) is)
-    (λ text. ap (λ o. declared_of o text ++ one_more full d text)
-    (sym none ∙ ap (get nat_cmp old) is))
-
-pub none_first : (old : BTreeMap ℕ OneHash) (full : Text) (hash : ℕ)
-    → hash ≡ hash_of full → get nat_cmp old hash ≡ None → declared_by_hash old full ≡ []
-none_first old full hash is none =
-    ap (λ o. declared_of o full) (ap (get nat_cmp old) (sym is) ∙ none)
 
 -- The declarations are still in the order of the files, whether the name was put first or not.
 pub stays_ordered : (old : Declarations) (new : BTreeMap ℕ OneHash) (full : Text) (d : Declaration)

@@ -1,4 +1,4 @@
-use Rattle.std.proofs.Common.{ap, string_bytes, subst, sym}
+use Rattle.std.proofs.Common.{string_bytes, subst}
 use Rattle.protobuf_parse_model.specs.ByHash.{IsWith}
 use Rattle.protobuf_parse_model.proofs.ByHash.{adds_alike}
 use Rattle.protobuf_parse_model.proofs.scope.by_hash.add_alike.Goals as goal
