@@ -11,7 +11,8 @@ use Rattle.protobuf_parse_model.specs.Descriptors.{Text}
 use Rattle.protobuf_parse_model.specs.Declarations.{DeclaredType, Scope, a_message, an_enum}
 use Rattle.protobuf_parse_model.specs.Declarations.{statement_extensions, statement_generated}
 use Rattle.protobuf_parse_model.specs.Declarations.{statement_types}
-use Rattle.protobuf_parse_model.specs.LastDeclared.{declares, declaring_place, last_place, names_declared}
+use Rattle.protobuf_parse_model.specs.LastDeclared.{declares, declaring_place, last_place}
+use Rattle.protobuf_parse_model.specs.LastDeclared.{names_declared}
 use Rattle.protobuf_parse_model.specs.LastDeclared.{places_of_name}
 use Rattle.protobuf_parse_model.specs.Linking.{occurrences}
 use Rattle.protobuf_parse_model.specs.Tables.{declaration_kind, declared_by, declared_by_statement}

@@ -33,7 +33,8 @@ use Rattle.protobuf_parse_model.specs.Declarations.{DeclaredType, a_message, an_
 use Rattle.protobuf_parse_model.specs.Declarations.{file_extensions, file_generated, file_types}
 use Rattle.protobuf_parse_model.specs.SeenFiles.{declared_as}
 use Rattle.protobuf_parse_model.specs.Faults.{Among, here, there, Elaborates, Fault}
-use Rattle.protobuf_parse_model.specs.Linking.{beginning, declared_twice, extension_names, link_faults}
+use Rattle.protobuf_parse_model.specs.Linking.{beginning, declared_twice, extension_names}
+use Rattle.protobuf_parse_model.specs.Linking.{link_faults}
 use Rattle.protobuf_parse_model.specs.Linking.{occurrences, repeated}
 use Rattle.protobuf_parse_model.specs.Linking.{type_names}
 use Rattle.protobuf_parse_model.specs.Tables.{Entry, TableTells, declared_by, declared_in}
@@ -195,7 +196,8 @@ told_of kind name = record { place = beginning; wrong = record { kind = kind; wh
 -- a name that stands among names and more than once among all is told
 told : (kind : ElabErrorKind) (all : List Text) (name : Text)
     → nat_lt 1 (occurrences name all) ≡ true → (names : List Text) → 0 < occurrences name names
-    → Among (flat_map (declared_twice kind) (filter (λ (x : Text). nat_lt 1 (occurrences x all)) names))
+    → Among (flat_map (declared_twice kind)
+    (filter (λ (x : Text). nat_lt 1 (occurrences x all)) names))
     (told_of kind name)
 told kind all name twice [] some = absurd (omega (arith, some))
 told kind all name twice (x ∷ xs) some =
@@ -214,7 +216,8 @@ told kind all name twice (x ∷ xs) some =
         → 0 < length (cond b (x ∷ filter (bytes_eq name) xs) (filter (bytes_eq name) xs))
         → (0 < occurrences name xs
         → Among (flat_map (declared_twice kind) rest) (told_of kind name))
-        → Among (flat_map (declared_twice kind) (cond (nat_lt 1 (occurrences x all)) (x ∷ rest) rest))
+        → Among (flat_map (declared_twice kind)
+        (cond (nat_lt 1 (occurrences x all)) (x ∷ rest) rest))
         (told_of kind name)
     at true e s more =
         let is : name ≡ x = (bytes_eq-Decides name x).0 e in
@@ -229,11 +232,13 @@ told kind all name twice (x ∷ xs) some =
 -- where no name stands more than once among all, none is told
 none_told : (kind : ElabErrorKind) (all : List Text)
     → ((name : Text) → nat_lt 1 (occurrences name all) ≡ false) → (names : List Text)
-    → flat_map (declared_twice kind) (filter (λ (x : Text). nat_lt 1 (occurrences x all)) names) ≡ []
+    → flat_map (declared_twice kind) (filter (λ (x : Text). nat_lt 1 (occurrences x all)) names)
+    ≡ []
 none_told kind all once [] = refl
 none_told kind all once (x ∷ xs) =
     let rest = filter (λ (x : Text). nat_lt 1 (occurrences x all)) xs in
-    ap (λ b. flat_map (declared_twice kind) (cond b (x ∷ rest) rest)) (once x) ∙ none_told kind all once xs
+    ap (λ b. flat_map (declared_twice kind) (cond b (x ∷ rest) rest)) (once x)
+    ∙ none_told kind all once xs
 
 append_nil_left : {A : Type 0} (xs ys : List A) → xs ++ ys ≡ [] → xs ≡ []
 append_nil_left [] ys e = refl
@@ -348,7 +353,8 @@ module _ (seen : Seen) (files : List FileSyntax)
 
   faultless : NoneTwice → link_faults reached ≡ []
   faultless none =
-      ap (λ fs. fs ++ flat_map (declared_twice ExtensionDeclaredTwice) (repeated (names_reached true)))
+      ap (λ fs. fs ++ flat_map (declared_twice ExtensionDeclaredTwice)
+      (repeated (names_reached true)))
       (none_told TypeDeclaredTwice (names_reached false) (once none false) (names_reached false))
       ∙ none_told ExtensionDeclaredTwice (names_reached true) (once none true) (names_reached true)
 
@@ -372,7 +378,8 @@ module _ (seen : Seen) (files : List FileSyntax)
             (flat_map (declared_twice ExtensionDeclaredTwice) (repeated (names_reached true)))
             (one_told false TypeDeclaredTwice name f
             (nat_lt 1 (times_declared false seen name)) refl g)
-        | inr g ↦ among_right (flat_map (declared_twice TypeDeclaredTwice) (repeated (names_reached false)))
+        | inr g ↦ among_right (flat_map (declared_twice TypeDeclaredTwice)
+            (repeated (names_reached false)))
             (one_told true ExtensionDeclaredTwice name f
             (nat_lt 1 (times_declared true seen name)) refl g)
       ]
@@ -407,7 +414,8 @@ module _ (seen : Seen) (files : List FileSyntax)
   links (Err (failure.Fault e)) h = files_told seen.reach.now _ h
 
   -- gone through by the files for which names are listed
-  among_reached : (file : ℕ) → Contains seen.reach.now file → list_any (nat_eq file) seen.reach.now ≡ true
+  among_reached : (file : ℕ) → Contains seen.reach.now file → list_any (nat_eq file) seen.reach.now
+      ≡ true
   among_reached file member = list_any-from_Contains nat_eq_equiv file seen.reach.now member
 
   if_reached : (file : ℕ) (b : Bool) → b ≡ true

@@ -148,7 +148,8 @@ module _ (name : Text) where
           ∙ ap (λ ds. types ++ ds) (append_assoc behind extensions rest)
 
       at : (b : Bool) → list_any (nat_eq n) sight ≡ b
-          → meant (first_type sight rest) ≡ find is_named (flat_map file_types (among sight (suc n) ts))
+          → meant (first_type sight rest) ≡ find is_named
+          (flat_map file_types (among sight (suc n) ts))
           → meant (first_type sight ((types ++ (behind ++ extensions)) ++ rest))
           ≡ find is_named
           (flat_map file_types ((if list_any (nat_eq n) sight then t ∷ [] else [])

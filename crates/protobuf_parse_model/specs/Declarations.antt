@@ -119,8 +119,8 @@ statement_extensions scope _ = []
 abbrev pub file_extensions : FileSyntax → List DeclaredExtension
 file_extensions t = flat_map (statement_extensions (file_scope t)) t.statements
 
--- ---- the messages behind maps and groups, of an `extend` those of its groups alone: no name that a
--- file writes means one of them
+-- ---- the messages behind maps and groups, of an `extend` those of its groups alone: no name that
+-- a file writes means one of them
 
 abbrev pub generated_by : Scope → FieldStatementSyntax → List Text
 generated_by scope (field f) = if is_map f.type_ then full_name scope (entry_name f.name) ∷ []

@@ -43,7 +43,8 @@ declared_twice kind name = placed beginning (fault kind name)
 abbrev pub link_faults : List FileSyntax → List Fault
 link_faults reached =
     flat_map (declared_twice TypeDeclaredTwice) (repeated (flat_map type_names reached))
-    ++ flat_map (declared_twice ExtensionDeclaredTwice) (repeated (flat_map extension_names reached))
+    ++ flat_map (declared_twice ExtensionDeclaredTwice)
+    (repeated (flat_map extension_names reached))
 
 -- The faults of a file: those, or where there are none these others. Until each name is declared
 -- once, what names mean isn't settled, so that nothing else is looked for.

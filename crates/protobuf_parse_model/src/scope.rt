@@ -98,7 +98,8 @@ pub fn type_named(
 ) -> Result<Option<Meaning>, AllocError>
     ensures by_table { IfOk result
         (λ m. option_map meaning_view m ≡ type_named (names_of_context context.now) name.now) }
-    ensures by_files { (files : List FileSyntax) → TableTells context.now.seen.declarations.now files
+    ensures by_files { (files : List FileSyntax)
+        → TableTells context.now.seen.declarations.now files
         → IfOk result (λ m. option_map meaning_view m
         ≡ meaning (flat_map file_types (picked files context.now.seen.sight.now))
         (name_texts context.now.scope.now) name.now) }

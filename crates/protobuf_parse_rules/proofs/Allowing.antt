@@ -135,7 +135,8 @@ module _ (all : List Place) (f : FieldDescriptor) where
                 (
                   none_is lazy (second (is_none packed) (is_none lazy) two),
                   (
-                    none_is js_type (second (is_none packed && is_none lazy) (is_none js_type) options),
+                    none_is js_type (second (is_none packed && is_none lazy)
+                        (is_none js_type) options),
                     (of_proto2 proto3 kinds, (known_default unasked, tt)),
                   ),
                 ),

@@ -29,7 +29,8 @@ use Rattle.protobuf_parse_rules.specs.Proto3.{default_field, group_field, requir
 use Rattle.protobuf_parse_rules.specs.Ranges.{kept_number, reserved_name, reserved_number}
 use Rattle.protobuf_parse_rules.specs.Repeats.{repeats}
 use Rattle.protobuf_parse_rules.specs.Rules.{Breach, Broken, Site, breaches_at}
-use Rattle.protobuf_parse_rules.specs.Violations.{breaches_after, breaches_inside, breaches_of_place}
+use Rattle.protobuf_parse_rules.specs.Violations.{breaches_after, breaches_inside}
+use Rattle.protobuf_parse_rules.specs.Violations.{breaches_of_place}
 use Rattle.protobuf_parse_rules.specs.Violations.{extension_breaches, field_breaches, own_rules}
 use Rattle.protobuf_parse_rules.specs.Violations.{range_breaches, site_in, site_of_place}
 use Rattle.protobuf_parse_rules.specs.declared.rule.Rule.TheVariants as rule
@@ -115,7 +116,8 @@ module _ (all : List Place) (p : Place) (f : FieldDescriptor)
 
   field_alone : field_breaches all p f ≡ told p f None None None
   field_alone =
-      ap (λ x. told p f x (of_enum all (enum_of_proto2 p.proto3) f) (of_enum all (default_value f) f))
+      ap (λ x. told p f x (of_enum all (enum_of_proto2 p.proto3) f)
+      (of_enum all (default_value f) f))
       no_value
       ∙ ap (λ y. told p f None y (of_enum all (default_value f) f)) no_proto2
       ∙ ap (λ z. told p f None None z) no_value_named
@@ -164,9 +166,11 @@ place_alone all p h =
     let extensions = extensions_of p.content in
     let others = left (are_any (imports_of p.content) || are_any extensions)
     (list_any (field_asks p.proto3 p.content) fields) h in
-    let none = any_nil extensions (right (are_any (imports_of p.content)) (are_any extensions) others) in
+    let none = any_nil extensions (right (are_any (imports_of p.content))
+    (are_any extensions) others) in
     let imports = left (are_any (imports_of p.content)) (are_any extensions) others in
-    ap (λ bs. told_inside p bs (flat_map (extension_breaches [] p) extensions) (unused_imports [] p))
+    ap (λ bs. told_inside p bs (flat_map (extension_breaches [] p) extensions)
+    (unused_imports [] p))
     (fields_alone all p fields (right (are_any (imports_of p.content) || are_any extensions)
     (list_any (field_asks p.proto3 p.content) fields) h))
     ∙ ap (λ bs. told_inside p (flat_map (field_breaches all p) fields) bs (unused_imports [] p))

@@ -1,5 +1,6 @@
 -- Where no number is in use already, the numbers of each message are distinct.
-use Rattle.std.proofs.Common.{◌≡◌, ℕ, ℤ, ◌+◌, ◌≤◌, Bool, true, false, cond, ◌&&◌, ◌⊎◌, inl, inr, List, [], ◌∷◌}
+use Rattle.std.proofs.Common.{◌≡◌, ℕ, ℤ, ◌+◌, ◌≤◌, Bool, true, false, cond, ◌&&◌, ◌⊎◌, inl, inr}
+use Rattle.std.proofs.Common.{List, [], ◌∷◌}
 use Rattle.std.proofs.Common.{◌++◌, map, refl, sym, ap, ◌∙◌, append-nil, arith, Option, Some, None}
 use Rattle.std.specs.Prelude.{option_to_list, bytes_eq, filter}
 use Rattle.std.specs.List.{flat_map}
@@ -22,7 +23,8 @@ use Rattle.protobuf_parse_rules.specs.Claims.{Thing}
 use Rattle.protobuf_parse_rules.specs.Numbers.{claim_of, claims, extension_claim}
 use Rattle.protobuf_parse_rules.specs.Numbers.{extension_claims, field_claims}
 use Rattle.protobuf_parse_rules.specs.Violations.{breaches_after}
-use Rattle.protobuf_parse_rules.proofs.Counting.{claimed, claimed-append, distinct, few_after, none_left}
+use Rattle.protobuf_parse_rules.proofs.Counting.{claimed, claimed-append, distinct, few_after}
+use Rattle.protobuf_parse_rules.proofs.Counting.{none_left}
 use Rattle.protobuf_parse_rules.proofs.Counting.{numbered, numbered-append, one_if}
 
 -- ---- the claims of a message are its fields and the extensions of it
@@ -198,7 +200,8 @@ extensions_are file =
     ∙ ap (λ (fs : List FieldDescriptor). fs
     ++ map field_of (extensions_within (package_scope file.«package») file.extension))
     (fields_inside path proto3 ds)
-    ∙ ap (λ (fs : List FieldDescriptor). flat_map extensions_at (map (message_place path proto3) ds) ++ fs)
+    ∙ ap (λ (fs : List FieldDescriptor). flat_map extensions_at (map (message_place path proto3) ds)
+    ++ fs)
     (fields_within (package_scope file.«package») file.extension))
 
 all_extensions : (files : List FileDescriptor)

@@ -1,6 +1,8 @@
 -- How many claims are of one thing, and how many fields have one number.
-use Rattle.std.proofs.Common.{◌≡◌, ℕ, ℤ, ◌+◌, ◌≤◌, Bool, true, false, cond, not, ◌&&◌, ◌||◌, List, [], ◌∷◌}
-use Rattle.std.proofs.Common.{◌++◌, refl, sym, ap, ◌∙◌, subst, append-nil, append_assoc, arith, Option}
+use Rattle.std.proofs.Common.{◌≡◌, ℕ, ℤ, ◌+◌, ◌≤◌, Bool, true, false, cond, not, ◌&&◌, ◌||◌, List}
+use Rattle.std.proofs.Common.{[], ◌∷◌}
+use Rattle.std.proofs.Common.{◌++◌, refl, sym, ap, ◌∙◌, subst, append-nil, append_assoc, arith}
+use Rattle.std.proofs.Common.{Option}
 use Rattle.std.proofs.Common.{Some, None}
 use Rattle.std.specs.Prelude.{filter}
 use Rattle.std.specs.List.{flat_map, list_any}
@@ -101,7 +103,8 @@ few_claims before (c ∷ cs) e few t =
     let first = first_claim before c.thing in
     let more = few_claims (before ++ c ∷ []) cs
     (none_right (conflict number_rule c first) _ e)
-    (one_more before c (none_in_use c first (none_left (conflict number_rule c first) _ e)) few) t in
+    (one_more before c (none_in_use c first
+    (none_left (conflict number_rule c first) _ e)) few) t in
     let same : (before ++ c ∷ []) ++ cs ≡ before ++ (c ∷ cs) = append_assoc before (c ∷ []) cs in
     subst (λ z. claimed t z ≤ 1) same more
 

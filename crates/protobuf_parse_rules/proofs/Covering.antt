@@ -1,6 +1,8 @@
 -- How many of many ranges have a number, by their first and their last numbers in order.
-use Rattle.std.proofs.Common.{◌≡◌, ℕ, zero, suc, ◌+◌, ◌≤◌, ◌<◌, ℤ, pos, Bool, true, false, cond, not, ◌&&◌}
-use Rattle.std.proofs.Common.{List, [], ◌∷◌, ◌++◌, refl, sym, ap, subst, ◌∙◌, arith, length, get_or, map, IsSorted, ◌-ℤ◌, ◌<ℤ◌, ◌≤ℤ◌}
+use Rattle.std.proofs.Common.{◌≡◌, ℕ, zero, suc, ◌+◌, ◌≤◌, ◌<◌, ℤ, pos, Bool, true, false, cond}
+use Rattle.std.proofs.Common.{not, ◌&&◌}
+use Rattle.std.proofs.Common.{List, [], ◌∷◌, ◌++◌, refl, sym, ap, subst, ◌∙◌, arith, length, get_or}
+use Rattle.std.proofs.Common.{map, IsSorted, ◌-ℤ◌, ◌<ℤ◌, ◌≤ℤ◌}
 use Rattle.std.specs.Prelude.{int_lt, nat_lt, IsPermutation, ◌||◌, min}
 use Rattle.std.specs.Int.Signed.{lt_z_yes, lt_z_no}
 use Rattle.std.specs.List.{count_by, list_any}
@@ -68,7 +70,8 @@ below_by_cmp false false = refl
 pub rises : (xs : List ℤ) → IsSorted int_cmp xs → (i j : ℕ) (d : ℤ) → i ≤ j → j < length xs
     → int_lt (get_or xs j d) (get_or xs i d) ≡ false
 rises xs up i j d le lt =
-    sym (below_by_cmp (int_lt (get_or xs j d) (get_or xs i d)) (int_lt (get_or xs i d) (get_or xs j d)))
+    sym (below_by_cmp (int_lt (get_or xs j d) (get_or xs i d))
+    (int_lt (get_or xs i d) (get_or xs j d)))
     ∙ sorted_far (λ x y. is_lt (int_cmp x y)) (ranks_by int_cmp_total (λ x. x)) xs up i j d le lt
 
 -- what is not above a number comes before what is

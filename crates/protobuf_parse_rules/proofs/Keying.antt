@@ -1,6 +1,7 @@
 -- Claims whose keys differ.
 use Rattle.std.proofs.Common.{◌≡◌, ℕ, ◌<◌, false, cond, List, [], ◌∷◌, ◌++◌, map}
-use Rattle.std.proofs.Common.{refl, sym, ap, subst, ◌∙◌, append_assoc, append-nil, arith, inl, inr, get_or}
+use Rattle.std.proofs.Common.{refl, sym, ap, subst, ◌∙◌, append_assoc, append-nil, arith, inl, inr}
+use Rattle.std.proofs.Common.{get_or}
 use Rattle.std.proofs.Common.{Some, None}
 use Rattle.std.proofs.Math.Dec.{eqb}
 use Rattle.std.specs.Prelude.{option_to_list}
@@ -152,7 +153,8 @@ number_keys p keys mid new fields extensions =
     extensions
     ∙ ap (λ ks. ks ++ flat_map extension_keys es) fields
     ∙ append_assoc keys (map (number_key p.scope) fs) (flat_map extension_keys es)
-    ∙ ap (λ ks. keys ++ (ks ++ flat_map extension_keys es)) (fused (claim_of p.file p.scope p.scope) fs)
+    ∙ ap (λ ks. keys ++ (ks ++ flat_map extension_keys es))
+    (fused (claim_of p.file p.scope p.scope) fs)
     ∙ ap (λ ks. keys ++ (map claim_key (field_claims p.file p.scope fs) ++ ks))
     (extension_keys_are p.file p.scope es)
     ∙ ap (λ ks. keys ++ ks)

@@ -32,7 +32,8 @@ found_none : (fs : List NamedFile) (path : Text) → list_any is_lite_file fs �
     → option_map_or is_lite_file (find (λ (f : NamedFile). bytes_eq f.path path) fs) false ≡ false
 found_none [] path e = refl
 found_none (f ∷ fs) path e =
-    at (bytes_eq f.path path) (found_none fs path (right (is_lite_file f) (list_any is_lite_file fs) e))
+    at (bytes_eq f.path path) (found_none fs path
+    (right (is_lite_file f) (list_any is_lite_file fs) e))
   where
     at : (b : Bool)
         → option_map_or is_lite_file (find (λ (x : NamedFile). bytes_eq x.path path) fs) false
@@ -65,7 +66,8 @@ module _ (all : List Place) (none : (path : Text) → is_lite_path all path ≡ 
       ap (λ b. cond b [] (flat_map (lite_import all site) f.dependency)
       ++ lite_services file scope f) other
       ∙ ap (λ bs. bs ++ lite_services file scope f) (no_import site f.dependency)
-      ∙ ap (λ b. cond (b && has_generic_services f) (flat_map (lite_service file scope) f.service) [])
+      ∙ ap (λ b. cond (b && has_generic_services f)
+      (flat_map (lite_service file scope) f.service) [])
       other
 
   no_runtime : (p : Place) → is_lite_place p ≡ false → runtime_breaches all p ≡ []

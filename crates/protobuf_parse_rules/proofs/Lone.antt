@@ -1,5 +1,6 @@
 -- Full names of which no two are one, but for those of packages.
-use Rattle.std.proofs.Common.{◌≡◌, ℕ, ◌+◌, ◌≤◌, Bool, true, false, cond, not, ◌||◌, List, [], ◌∷◌, ◌++◌}
+use Rattle.std.proofs.Common.{◌≡◌, ℕ, ◌+◌, ◌≤◌, Bool, true, false, cond, not, ◌||◌, List, [], ◌∷◌}
+use Rattle.std.proofs.Common.{◌++◌}
 use Rattle.std.proofs.Common.{map, refl, sym, ap, subst, ◌∙◌, append-nil, arith, Some, None}
 use Rattle.std.proofs.Math.Dec.{eqb}
 use Rattle.std.specs.List.{IsDistinct, AllByRecursion, Contains, flat_map, list_any}

@@ -1,5 +1,6 @@
 -- Fields of which no rule of fields speaks.
-use Rattle.std.proofs.Common.{◌≡◌, pos, Bool, true, false, not, List, [], ◌∷◌, refl, ap, ◌∙◌, Option}
+use Rattle.std.proofs.Common.{◌≡◌, pos, Bool, true, false, not, List, [], ◌∷◌, refl, ap, ◌∙◌}
+use Rattle.std.proofs.Common.{Option}
 use Rattle.std.proofs.Common.{None, Some}
 use Rattle.std.specs.Prelude.{◌&&◌, is_none, is_some, if◌then◌else◌, option_and_then}
 use Rattle.std.specs.List.{AllByRecursion}
@@ -9,7 +10,8 @@ use Rattle.protobuf_parse_model.specs.declared.descriptor.FieldType.TheVariants 
 use Rattle.protobuf_parse_model.specs.Descriptors.{FieldDescriptor, Range, Text}
 use Rattle.protobuf_parse_rules.specs.Defaults.{default_of}
 use Rattle.protobuf_parse_rules.specs.Enums.{not_zero}
-use Rattle.protobuf_parse_rules.specs.EnumUses.{default_value, enum_of_field, enum_of_proto2, is_enum}
+use Rattle.protobuf_parse_rules.specs.EnumUses.{default_value, enum_of_field, enum_of_proto2}
+use Rattle.protobuf_parse_rules.specs.EnumUses.{is_enum}
 use Rattle.protobuf_parse_rules.specs.EnumUses.{map_value, of_enum}
 use Rattle.protobuf_parse_rules.specs.FieldOptions.{js_type_option, lazy_option}
 use Rattle.protobuf_parse_rules.specs.FieldOptions.{packed_option}
@@ -65,7 +67,8 @@ unbroken b r e = ap (λ x. broken_if x r) e
 
 -- ---- by the field
 
-pub other_kind : (t : FieldType) → is_group_or_enum t ≡ false → (is_group t ≡ false) × (is_enum t ≡ false)
+pub other_kind : (t : FieldType) → is_group_or_enum t ≡ false
+    → (is_group t ≡ false) × (is_enum t ≡ false)
 other_kind kind.Group e = absurd cc
 other_kind kind.Enum e = absurd cc
 other_kind kind.Double e = (refl, refl)
@@ -93,7 +96,8 @@ module _ (all : List Place) (f : FieldDescriptor) where
   pub ordinary_told : (proto3 : Bool) (site : Site) → is_ordinary f ≡ true
       → breaches_at site (common_rules all proto3 f) ≡ []
   ordinary_told proto3 site e =
-      let front = first ((is_none f.options && is_none f.default_value) && not (is_required f.label))
+      let front = first ((is_none f.options && is_none f.default_value) && not
+      (is_required f.label))
       (not (is_group_or_enum f.type_)) e in
       let kinds = other_kind f.type_ (untrue (is_group_or_enum f.type_)
       (second ((is_none f.options && is_none f.default_value) && not (is_required f.label))
@@ -175,7 +179,8 @@ module _ (all : List Place) (content : Content) (f : FieldDescriptor) where
               (
                 unbroken _ rule.FieldInMessageSet set,
                 (
-                  ap (λ b. broken_if (b && (int_eq f.number (pos 1) && is_no_key f.type_)) rule.MapKey)
+                  ap (λ b. broken_if (b && (int_eq f.number
+                      (pos 1) && is_no_key f.type_)) rule.MapKey)
                       entry,
                   (no_map_value (enum_of_field all f) entry, tt),
                 ),

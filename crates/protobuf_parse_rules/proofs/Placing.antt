@@ -33,8 +33,10 @@ message_declared scope name m named =
     (declared_list name (map message_view (out-DescriptorProto m).nested_type.items))
 
 -- places behind places
-pub places_more : (path : Text) (proto3 : Bool) (old mid new : List Place) (ds es all : List Declaration)
-    → mid ≡ old ++ map (message_place path proto3) ds → new ≡ mid ++ map (message_place path proto3) es
+pub places_more : (path : Text) (proto3 : Bool) (old mid new : List Place)
+    (ds es all : List Declaration)
+    → mid ≡ old ++ map (message_place path proto3) ds → new ≡ mid
+    ++ map (message_place path proto3) es
     → all ≡ ds ++ es → new ≡ old ++ map (message_place path proto3) all
 places_more path proto3 old mid new ds es all p q e =
     q ∙ ap (λ z. z ++ map (message_place path proto3) es) p

@@ -60,7 +60,8 @@ searched ws t (Err i) up bound found =
     let point = found (searchable_from_sorted nat_list_cmp_total (λ (w : Bor (List ℕ)). w.now) ws
     t.now up) in
     sym (any_word ws t.now ∙ nowhere (is_word t.now) ws i
-    (λ k d lt. sym (is_eq-slice_cmp (get_or ws k d).now t.now) ∙ ap is_eq (point.0 k d (omega arith) lt))
+    (λ k d lt. sym (is_eq-slice_cmp (get_or ws k d).now t.now)
+    ∙ ap is_eq (point.0 k d (omega arith) lt))
     (λ k d a b. sym (is_eq-slice_cmp (get_or ws k d).now t.now) ∙ ap is_eq (point.1 k d a b)))
 
 -- the order doesn't count

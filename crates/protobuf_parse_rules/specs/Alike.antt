@@ -1,7 +1,8 @@
 -- Names that are one but for case and underscores: of the fields of a message of proto3, and of the
 -- values of an enum, there without the enum's own name at the head, if they have it. The names of
 -- an enum's values are told apart word by word. protoc says it of both
--- (src/google/protobuf/descriptor.cc of version 3.21); from version 22 on it compares names in JSON.
+-- (src/google/protobuf/descriptor.cc of version 3.21); from version 22 on it compares names in
+-- JSON.
 use Rattle.std.specs.Prelude.{ℕ, ℤ, pos, Bool, not, ◌==◌, if◌then◌else◌, List, [], ◌∷◌, map, filter}
 use Rattle.std.specs.Prelude.{Some, None, encode_utf8_all}
 use Rattle.std.specs.Char.{to_ascii_lowercase}

@@ -66,5 +66,6 @@ has_common_options f = (is_none (option_of (packed_option f.label f.type_) f)
 
 -- its options and its default break no rule, and none needs its enum
 abbrev pub is_common : (proto3 : Bool) → FieldDescriptor → Bool
-is_common proto3 f = ((not (proto3 && is_noted f) && not (is_some f.default_value && is_enum f.type_))
+is_common proto3 f = ((not (proto3 && is_noted f) && not
+    (is_some f.default_value && is_enum f.type_))
     && is_none (default_of f f.default_value)) && has_common_options f

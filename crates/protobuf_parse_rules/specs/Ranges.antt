@@ -1,6 +1,7 @@
 -- Ranges of numbers that a message keeps for extensions, or lets no field have, and of numbers that
 -- no value of an enum has. Protocol Buffers Language Guide (proto2), "Reserved Fields",
--- "Extensions" (https://protobuf.dev). A range of a message ends before its `end`, one of an enum at it.
+-- "Extensions" (https://protobuf.dev). A range of a message ends before its `end`, one of an enum
+-- at it.
 use Rattle.std.specs.Prelude.{ℤ, pos, Bool, not, ◌&&◌, Option, int_lt, nat_lt, bytes_eq, List, []}
 use Rattle.std.specs.Prelude.{◌∷◌, ◌++◌}
 use Rattle.std.specs.List.{count_by, list_any}
@@ -54,7 +55,8 @@ overlapping ranges start =
     broken_if (nat_lt 1 (count_by (in_range start) ranges)) (rule.RangesOverlap start)
 
 -- what is wrong with a range of extensions of a message, and with a reserved one
-abbrev pub extension_range : Site → (message_set : Bool) → (ranges : List Range) → Range → List Breach
+abbrev pub extension_range : Site → (message_set : Bool) → (ranges : List Range) → Range
+    → List Breach
 extension_range site message_set ranges r = breaches_at site
     (not_positive r.start
     ∷ without_numbers r.start r.end

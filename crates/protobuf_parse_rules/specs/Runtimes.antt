@@ -52,7 +52,8 @@ is_lite f = option_map_or is_lite_mode
 
 -- a file with that path, and for the lite runtime or not
 abbrev pub is_lite_path : List Place → Text → Bool
-is_lite_path all path = option_map_or (λ (f : NamedFile). is_lite f.what) (file_named all path) false
+is_lite_path all path = option_map_or (λ (f : NamedFile). is_lite f.what)
+    (file_named all path) false
 
 -- a file that is not for the lite runtime imports that path
 abbrev pub of_lite_path : List Place → (path : Text) → Option Broken

@@ -160,7 +160,8 @@ pub enum Rule {
     /// C49: a file that is not for the lite runtime imports one, `name`, that is.
     #[error("a file that is not for the lite runtime imports one that is")]
     LiteImport,
-    /// C50: an extension in a file for the lite runtime is of a message, `name`, of one that is not.
+    /// C50: an extension in a file for the lite runtime is of a message, `name`, of one that is
+    /// not.
     #[error("a file for the lite runtime extends a message of one that is not")]
     LiteExtension,
     /// C51: a service of the generic kind, for C++ or Java, in a file for the lite runtime.

@@ -16,7 +16,8 @@ ghost use Rattle.protobuf_parse_model.specs.ByHash.{hash_of};
 ghost use Rattle.protobuf_parse_model.specs.FileOrder.{FilesAscend};
 ghost use Rattle.protobuf_parse_model.specs.SeenFiles.{declared_as, kind_view, name_texts};
 ghost use Rattle.protobuf_parse_model.specs.Tables.{Adds, AddsOne, KeepsListed, ListsOne, SaysSame};
-ghost use Rattle.protobuf_parse_model.specs.Tables.{TableTells, declared_by_statement, names_listed};
+ghost use Rattle.protobuf_parse_model.specs.Tables.{TableTells, declared_by_statement};
+ghost use Rattle.protobuf_parse_model.specs.Tables.{names_listed};
 ghost use Rattle.protobuf_parse_model.specs.Tables.{type_entry};
 
 use super::by_hash::{add_alike, hash_of, insert_first};

@@ -31,5 +31,5 @@ loop-statement-preserved c =
             found_before c.args.extension scope c.args.name.now before s c.if-branch.found
             (w.found-is ∙ c.loop-statement.invariant.found) (sym says ∙ w.if-branch.false)
       ] ∙ ap (λ ss. last_place None (places_of_name c.args.extension scope c.args.name.now ss))
-      (sym more);
+          (sym more);
     }

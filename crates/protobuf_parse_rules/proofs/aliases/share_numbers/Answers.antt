@@ -18,7 +18,8 @@ values-preserved c = λ all are.
     elim c.if-is_shared.branch [
       | then-is_shared w ↦
           found_now c.if-is_shared.shared c.is_shared.result before this
-          (w.shared-is ∙ w.if-is_shared.true) w.if-is_shared.true (c.is_shared.ensures all are) ∙ more
+          (w.shared-is ∙ w.if-is_shared.true) w.if-is_shared.true (c.is_shared.ensures all are)
+          ∙ more
       | else-is_shared w ↦
           found_stays c.if-is_shared.shared c.values.shared c.is_shared.result before this
           w.shared-is (c.values.invariant all are) w.if-is_shared.false

@@ -1,4 +1,5 @@
-use Rattle.std.proofs.Common.{◌≡◌, ℤ, [], ◌∷◌, ◌++◌, sym, subst, ap, ◌∙◌, Some, None, Option, w32, rules}
+use Rattle.std.proofs.Common.{◌≡◌, ℤ, [], ◌∷◌, ◌++◌, sym, subst, ap, ◌∙◌, Some, None, Option, w32}
+use Rattle.std.proofs.Common.{rules}
 use Rattle.std.proofs.Common.{to_z, of_z}
 use Rattle.std.specs.Prelude.{option_map}
 use Rattle.std.specs.Int.RustNames.{FitsSigned}

@@ -6,5 +6,6 @@ use Rattle.protobuf_parse_rules.proofs.enum_bars.check_reserved.Given as goal
 
 abbrev pub invariant-values : goal.invariant-values
 invariant-values l = breaches_told l.told ≡ breaches_told l.fn.told
-    ++ flat_map (value_breaches l.body.file.now (string_bytes l.body.scope) (enum_view l.bars.each.now))
+    ++ flat_map (value_breaches l.body.file.now (string_bytes l.body.scope)
+    (enum_view l.bars.each.now))
     (map enum_value_view (take l.value-index l.values))

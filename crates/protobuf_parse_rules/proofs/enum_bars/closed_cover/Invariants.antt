@@ -5,5 +5,6 @@ use Rattle.protobuf_parse_rules.specs.Enums.{in_closed_range}
 use Rattle.protobuf_parse_rules.proofs.enum_bars.closed_cover.Given as goal
 
 abbrev pub invariant-reserved : goal.invariant-reserved
-invariant-reserved l = AreEnds in_closed_range (map enum_range_view (take l.range-index l.ranges)) l.ends.firsts.items
+invariant-reserved l = AreEnds in_closed_range
+    (map enum_range_view (take l.range-index l.ranges)) l.ends.firsts.items
     l.ends.lasts.items

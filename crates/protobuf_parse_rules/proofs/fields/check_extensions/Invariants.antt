@@ -9,4 +9,5 @@ use Rattle.protobuf_parse_rules.proofs.fields.check_extensions.Given as goal
 abbrev pub invariant-extensions : goal.invariant-extensions
 invariant-extensions l = (all : List Place) → Knows l.tables all →
     breaches_told l.told ≡ breaches_told l.fn.told
-    ++ flat_map (extension_breaches all (body_view l.body)) (map field_view (take l.extension-index l.extensions))
+    ++ flat_map (extension_breaches all (body_view l.body))
+    (map field_view (take l.extension-index l.extensions))

@@ -3,7 +3,8 @@ use Rattle.std.proofs.Common.{below_more, length-set}
 use Rattle.std.proofs.Math.Dec.{eqb}
 use Rattle.std.proofs.lemmas.List.{get_or_default}
 use Rattle.std.proofs.lemmas.Map.Keys.{IsDistinct-from_apart}
-use Rattle.protobuf_parse_rules.proofs.Slots.{DifferAt, SlotsTaken, differ_by_search, differ_by_slot}
+use Rattle.protobuf_parse_rules.proofs.Slots.{DifferAt, SlotsTaken, differ_by_search}
+use Rattle.protobuf_parse_rules.proofs.Slots.{differ_by_slot}
 use Rattle.protobuf_parse_rules.proofs.Slots.{slots_more}
 use Rattle.protobuf_parse_rules.proofs.keys.each_is_new.Goals as goal
 use Rattle.protobuf_parse_rules.proofs.keys.each_is_new.Goals.{else-taken-slot-via-else-taken-slot}
@@ -32,6 +33,7 @@ loop-i-preserved c =
 pub returns : goal.returns
 returns c = λ u. IsDistinct-from_apart eqb c.args.keys.now (λ i j d less within.
     let h = c.loop-i.invariant.0 i j less (omega arith) in
-    ap (λ x. eqb x (get_or c.args.keys.now j d)) (get_or_default c.args.keys.now i d 0 (omega arith))
+    ap (λ x. eqb x (get_or c.args.keys.now j d))
+    (get_or_default c.args.keys.now i d 0 (omega arith))
     ∙ ap (λ x. eqb (get_or c.args.keys.now i 0) x) (get_or_default c.args.keys.now j d 0 within)
     ∙ h)

@@ -5,5 +5,6 @@ use Rattle.protobuf_parse_rules.specs.Ranges.{in_range}
 use Rattle.protobuf_parse_rules.proofs.ranges.kept_cover.Given as goal
 
 abbrev pub invariant-kept : goal.invariant-kept
-invariant-kept l = AreEnds in_range (map extension_range_view (take l.range-index l.ranges)) l.ends.firsts.items
+invariant-kept l = AreEnds in_range (map extension_range_view
+    (take l.range-index l.ranges)) l.ends.firsts.items
     l.ends.lasts.items

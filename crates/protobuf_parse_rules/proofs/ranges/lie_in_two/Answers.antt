@@ -10,5 +10,6 @@ returns c =
     let reserved = reserved_ranges content in
     let kept = extension_ranges content in
     more_than_one (in_range c.args.number.now) reserved kept c.count-reserved.result
-    c.count.result c.saturating_add.result (c.count-reserved.ensures in_range reserved bars.are_reserved)
+    c.count.result c.saturating_add.result
+    (c.count-reserved.ensures in_range reserved bars.are_reserved)
     (c.count.ensures in_range kept bars.are_kept) c.saturating_add.ensures

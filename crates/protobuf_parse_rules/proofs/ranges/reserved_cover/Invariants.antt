@@ -5,5 +5,6 @@ use Rattle.protobuf_parse_rules.specs.Ranges.{in_range}
 use Rattle.protobuf_parse_rules.proofs.ranges.reserved_cover.Given as goal
 
 abbrev pub invariant-reserved : goal.invariant-reserved
-invariant-reserved l = AreEnds in_range (map reserved_range_view (take l.range-index l.ranges)) l.ends.firsts.items
+invariant-reserved l = AreEnds in_range
+    (map reserved_range_view (take l.range-index l.ranges)) l.ends.firsts.items
     l.ends.lasts.items

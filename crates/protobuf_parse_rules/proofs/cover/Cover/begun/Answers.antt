@@ -11,7 +11,8 @@ returns c =
     let n : ℤ = c.args.number.now in
     let xs : List ℤ = c.deref.result.now in
     let up : IsSorted int_cmp xs =
-    subst (λ (l : List ℤ). IsSorted int_cmp l) (sym c.deref.ensures.value) c.args.self.now.firsts_rise in
+    subst (λ (l : List ℤ). IsSorted int_cmp l)
+    (sym c.deref.ensures.value) c.args.self.now.firsts_rise in
     let point = IsPartitionPoint-from_clause (λ first. not (int_lt n first)) xs _
     c.partition_point.ensures.partitioned (parted_from xs n up) (λ a r q k. search rules) in
     point_counts (λ first. not (int_lt n first)) xs _ c.partition_point.ensures.bound
