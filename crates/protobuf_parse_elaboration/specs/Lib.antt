@@ -1,4 +1,3 @@
-pub mod NameKeys
 pub mod ConstructOptions
 pub mod Fields
 pub mod OptionViews

@@ -12,6 +12,7 @@ use Rattle.std.specs.Prelude.{nat_lt, Contains, String}
 use Rattle.std.specs.BTreeMap.{is_at}
 use Rattle.std.specs.Global.{Global, Vec}
 use Rattle.std.specs.List.{list_any}
+use Rattle.std.specs.List.Sorted.{IsStrictlyIncreasing}
 use Rattle.std.specs.Map.{lookup}
 use Rattle.std.specs.Ordering.{nat_cmp}
 use Rattle.std.proofs.lemmas.Bool.{ltb-true}
@@ -27,16 +28,16 @@ use Rattle.protobuf_parse_model.specs.declared.error.ElabErrorKind.TheVariants.{
 use Rattle.protobuf_parse_model.specs.declared.error.ElabFailure.{ElabFailure}
 use Rattle.protobuf_parse_model.specs.declared.error.ElabFailure.TheVariants as failure
 use Rattle.protobuf_parse_model.specs.declared.scope.seen.Declaration.{Declaration}
+use Rattle.protobuf_parse_model.specs.declared.scope.seen.Declarations.{Declarations}
 use Rattle.protobuf_parse_model.specs.declared.scope.seen.Seen.{Seen}
 use Rattle.protobuf_parse_model.specs.Descriptors.{Text}
 use Rattle.protobuf_parse_model.specs.Declarations.{DeclaredType, a_message, an_enum}
 use Rattle.protobuf_parse_model.specs.Declarations.{file_extensions, file_generated, file_types}
 use Rattle.protobuf_parse_model.specs.SeenFiles.{declared_as}
 use Rattle.protobuf_parse_model.specs.Faults.{Among, here, there, Elaborates, Fault}
-use Rattle.protobuf_parse_model.specs.Linking.{beginning, declared_twice, extension_names}
+use Rattle.protobuf_parse_model.specs.Linking.{beginning, declared_twice, full_names}
 use Rattle.protobuf_parse_model.specs.Linking.{link_faults}
 use Rattle.protobuf_parse_model.specs.Linking.{occurrences, repeated}
-use Rattle.protobuf_parse_model.specs.Linking.{type_names}
 use Rattle.protobuf_parse_model.specs.Tables.{Entry, TableTells, declared_by, declared_in}
 use Rattle.protobuf_parse_model.specs.Tables.{declared_in_file, extension_entry, generated_entry}
 use Rattle.protobuf_parse_model.specs.Tables.{is_of, declaration_kind, listed_faults, listed_names}
@@ -77,11 +78,6 @@ module _ (extension : Bool) (reach : List ℕ) (name : Text) where
       → times extension reach (declared_by entry name n ds) ≡ 0
   none entry n each ds = counting.none counts name entry n each ds
 
--- the names of extensions in a file, or else those of types
-abbrev names_in : Bool → FileSyntax → List Text
-names_in true t = extension_names t
-names_in false t = type_names t
-
 type_is : (extension : Bool) (d : DeclaredType)
     → is_of extension (type_entry d).what ≡ not extension
 type_is extension d = at d.what
@@ -113,7 +109,7 @@ module _ (reach : List ℕ) (name : Text) (n : ℕ) (t : FileSyntax) where
       (declared_by extension_entry name n (file_extensions t)))
 
   in_reach : (extension : Bool) → list_any (nat_eq n) reach ≡ true
-      → times extension reach (declared_in_file name n t) ≡ occurrences name (names_in extension t)
+      → times extension reach (declared_in_file name n t) ≡ occurrences name (full_names extension t)
   in_reach false e =
       let types = all false reach name type_entry n
       (λ d. ap (λ b. b && list_any (nat_eq n) reach) (type_is false d) ∙ e) (file_types t) in
@@ -146,7 +142,7 @@ module _ (reach : List ℕ) (name : Text) (n : ℕ) (t : FileSyntax) where
 
 counted : (extension : Bool) (reach : List ℕ) (name : Text) (n : ℕ) (ts : List FileSyntax)
     → times extension reach (declared_in name n ts)
-    ≡ occurrences name (flat_map (names_in extension) (among reach n ts))
+    ≡ occurrences name (flat_map (full_names extension) (among reach n ts))
 counted extension reach name n [] = refl
 counted extension reach name n (t ∷ ts) =
     times-append extension reach name (declared_in_file name n t) (declared_in name (suc n) ts)
@@ -154,32 +150,32 @@ counted extension reach name n (t ∷ ts) =
   where
     at : (b : Bool) → list_any (nat_eq n) reach ≡ b
         → times extension reach (declared_in name (suc n) ts)
-        ≡ occurrences name (flat_map (names_in extension) (among reach (suc n) ts))
+        ≡ occurrences name (flat_map (full_names extension) (among reach (suc n) ts))
         → times extension reach (declared_in_file name n t) + times extension reach
         (declared_in name (suc n) ts)
-        ≡ occurrences name (flat_map (names_in extension) (among reach n (t ∷ ts)))
+        ≡ occurrences name (flat_map (full_names extension) (among reach n (t ∷ ts)))
     at true e more =
         let here_is = in_reach reach name n t extension e in
-        let sum = occurrences-append name (names_in extension t)
-        (flat_map (names_in extension) (among reach (suc n) ts)) in
+        let sum = occurrences-append name (full_names extension t)
+        (flat_map (full_names extension) (among reach (suc n) ts)) in
         let added : times extension reach (declared_in_file name n t) + times extension reach
         (declared_in name (suc n) ts)
         ≡ occurrences name
-        (names_in extension t ++ flat_map (names_in extension) (among reach (suc n) ts)) =
+        (full_names extension t ++ flat_map (full_names extension) (among reach (suc n) ts)) =
         omega (arith, here_is, sum, more) in
         added ∙ ap
         (λ b. occurrences name
-        (flat_map (names_in extension)
+        (flat_map (full_names extension)
         ((if b then t ∷ [] else []) ++ among reach (suc n) ts))) (sym e)
     at false e more =
         let here_is = out_of_reach reach name n t extension e in
         let added : times extension reach (declared_in_file name n t) + times extension reach
         (declared_in name (suc n) ts)
-        ≡ occurrences name (flat_map (names_in extension) (among reach (suc n) ts)) =
+        ≡ occurrences name (flat_map (full_names extension) (among reach (suc n) ts)) =
         omega (arith, here_is, more) in
         added ∙ ap
         (λ b. occurrences name
-        (flat_map (names_in extension)
+        (flat_map (full_names extension)
         ((if b then t ∷ [] else []) ++ among reach (suc n) ts))) (sym e)
 
 -- ---- faults, by the names that are listed
@@ -287,21 +283,29 @@ some_counts extension reach name (d ∷ ds) some =
     at false e s more =
         let one = more s in (one.0, Contains-append_right (d ∷ []) ds one.0 one.1, one.2)
 
+-- how often the files with these numbers declare a name
+pub times_over : (table : Declarations) (files : List FileSyntax) → TableTells table files
+    → (reach : List ℕ) → IsStrictlyIncreasing reach → (extension : Bool) (name : Text)
+    → times extension reach (declared_as table name)
+    ≡ occurrences name (flat_map (full_names extension) (picked files reach))
+times_over table files tells reach ascends extension name =
+    ap (times extension reach) (tells.declares name)
+    ∙ counted extension reach name 0 files
+    ∙ ap (λ fs. occurrences name (flat_map (full_names extension) fs))
+    (picked_among files reach ascends)
+
 module _ (seen : Seen) (files : List FileSyntax)
     (tells : TableTells seen.declarations.now files) where
   abbrev reached : List FileSyntax
   reached = picked files seen.reach.now
 
   abbrev names_reached : Bool → List Text
-  names_reached extension = flat_map (names_in extension) reached
+  names_reached extension = flat_map (full_names extension) reached
 
   times_are : (extension : Bool) (name : Text)
       → times_declared extension seen name ≡ occurrences name (names_reached extension)
-  times_are extension name =
-      ap (times extension seen.reach.now) (tells.declares name)
-      ∙ counted extension seen.reach.now name 0 files
-      ∙ ap (λ fs. occurrences name (flat_map (names_in extension) fs))
-      (picked_among files seen.reach.now seen.reach_ascends)
+  times_are extension name = times_over seen.declarations.now files tells seen.reach.now
+      seen.reach_ascends extension name
 
   -- a name that is declared more than once is listed for a file that is reached
   is_listed : (extension : Bool) (name : Text)

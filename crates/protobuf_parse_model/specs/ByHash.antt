@@ -11,7 +11,7 @@ use Rattle.protobuf_parse_model.specs.declared.scope.seen.Declared.TheVariants.{
 use Rattle.protobuf_parse_model.specs.declared.scope.seen.OneHash.TheVariants.{Name, Names}
 use Rattle.protobuf_parse_model.specs.FileOrder.{listed}
 
--- the hash of a full name: what the hasher of std's maps makes of its bytes
+-- the hash of a name: what the hasher of std's maps makes of its bytes
 abbrev pub hash_of : List ℕ → ℕ
 hash_of name = finish (write initial name)
 

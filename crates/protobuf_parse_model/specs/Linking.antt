@@ -5,7 +5,7 @@
 -- are each given once, in any order. Protocol Buffers Language Guide, "Packages"
 -- (https://protobuf.dev).
 use Rattle.std.specs.Prelude.{ℕ, nat_lt, List, [], ◌∷◌, ◌++◌, map, filter, flat_map, length}
-use Rattle.std.specs.Prelude.{bytes_eq}
+use Rattle.std.specs.Prelude.{Bool, true, false, Option, None, Some, bytes_eq}
 use Rattle.protobuf_parse_lexer.specs.declared.lexer.token.Place.{Place}
 use Rattle.protobuf_parse_syntax.specs.Trees.{FileSyntax}
 use Rattle.protobuf_parse_model.specs.declared.error.ElabErrorKind.{ElabErrorKind}
@@ -24,9 +24,19 @@ type_names t = map (λ (d : DeclaredType). d.name) (file_types t) ++ file_genera
 abbrev pub extension_names : FileSyntax → List Text
 extension_names t = map (λ (d : DeclaredExtension). d.name) (file_extensions t)
 
+-- those of the extensions of a file, or else those of its messages and enums
+abbrev pub full_names : Bool → FileSyntax → List Text
+full_names true t = extension_names t
+full_names false t = type_names t
+
 -- how often the name stands among these
 abbrev pub occurrences : Text → List Text → ℕ
 occurrences name names = length (filter (bytes_eq name) names)
+
+-- whether the file, if there is one, declares the name so
+abbrev pub declares_name : Bool → Text → Option FileSyntax → Bool
+declares_name extension name None = false
+declares_name extension name (Some t) = nat_lt 0 (occurrences name (full_names extension t))
 
 -- those of the names that stand more than once
 abbrev pub repeated : List Text → List Text

@@ -1,17 +1,54 @@
-//! Where in a file a full name is declared.
+//! Where a full name is declared: in which files, and where in a file.
 
-ghost use Rattle.std.specs.Prelude.{◌≡◌, ◌++◌, List, filter, length, map, nat_lt, IfOk, OnOk};
-ghost use Rattle.protobuf_parse_syntax.specs.Trees.{file_syntax, statement_syntax};
-ghost use Rattle.protobuf_parse_model.specs.Descriptors.{Text};
+ghost use Rattle.std.specs.Prelude.{◌≡◌, ℕ, ◌∷◌, [], List, filter, nat_lt, slice_get, IfOk, OnOk};
+ghost use Rattle.protobuf_parse_syntax.specs.Trees.{FileSyntax, file_syntax, statement_syntax};
 ghost use Rattle.protobuf_parse_model.specs.LastDeclared as spec;
+ghost use Rattle.protobuf_parse_model.specs.Linking.{declares_name};
 ghost use Rattle.protobuf_parse_model.specs.SeenFiles.{declared_as, name_texts};
-ghost use Rattle.protobuf_parse_model.specs.Tables.{declared_by_statement};
+ghost use Rattle.protobuf_parse_model.specs.Tables.{TableTells, times};
 
-use crate::linking::{BEGINNING, number_of};
-use crate::scope::{Declarations, add_statement_names, declarations_of, file_scope};
+use crate::linking::{BEGINNING, number_of, times};
+use crate::scope::{Declarations, Seen, add_statement_names, declarations_of, file_scope};
 use protobuf_parse_lexer::Place;
 use protobuf_parse_syntax::{FileStatement, FileTree};
 use std::alloc::{AllocError, Global};
+use std::slice;
+
+/// The numbers of the files, among those that are reached, that declare this full name, which has
+/// its first dot: as an extension, or else as a message or an enum, those behind maps and groups
+/// with them. They ascend. The one error is that memory is short.
+pub fn declaring_files(
+    alloc: Global,
+    seen: &Seen<'_>,
+    name: &str,
+    extension: bool,
+) -> Result<Vec<u32>, AllocError>
+    ensures { (files : List FileSyntax) → TableTells seen.now.declarations.now files
+        → IfOk result (λ numbers. numbers.items
+        ≡ filter (λ (n : ℕ). declares_name extension name.now (slice_get files n))
+        seen.now.reach.now) }
+{
+    let mut numbers = Vec::new(alloc);
+    for file in seen.reach {
+        if is_declared_in(seen, name, extension, *file) {
+            numbers.push(*file)?;
+        }
+    }
+    Ok(numbers)
+}
+
+/// Whether the file with that number declares the full name so.
+fn is_declared_in(seen: &Seen<'_>, name: &str, extension: bool, file: u32) -> bool
+    ensures { result ≡ nat_lt 0 (times extension (file ∷ [])
+        (declared_as seen.now.declarations.now name.now)) }
+{
+    let alone = Seen {
+        declarations: seen.declarations,
+        sight: seen.sight,
+        reach: slice::from_ref(&file),
+    };
+    times(&alone, declarations_of(seen.declarations, name), extension) > 0
+}
 
 /// Where the last statement of the file begins that declares this full name, which has its first
 /// dot: of an extension, or else of a message or an enum, those behind maps and groups with them.

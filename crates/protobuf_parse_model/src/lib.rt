@@ -10,7 +10,7 @@ mod made_names;
 mod scope;
 
 pub use customs::{Construct, CustomOptions, WithoutCustoms, path_text};
-pub use declaring::last_declared;
+pub use declaring::{declaring_files, last_declared};
 pub use descriptor::{
     CType, DescriptorProto, EnumDescriptorProto, EnumOptions, EnumReservedRange,
     EnumValueDescriptorProto, EnumValueOptions, ExtensionRange, FieldDescriptorProto, FieldOptions,
@@ -23,5 +23,5 @@ pub use linking::link;
 pub use made_names::{entry_name, group_field_name};
 pub use scope::{
     Context, Declaration, DeclarationKind, Declarations, Meaning, Seen, TypeKind, file_scope,
-    full_name, scope_of_package, type_named,
+    full_name, hash_of, scope_of_package, type_named,
 };

@@ -123,7 +123,7 @@ fn check_name(alloc: Global, seen: &Seen<'_>, name: &str) -> Result<(), ElabFail
 }
 
 /// How many of the declarations, of extensions or else of types, stand in files that are reached.
-fn times(seen: &Seen<'_>, declarations: &[Declaration], extension: bool) -> usize
+pub fn times(seen: &Seen<'_>, declarations: &[Declaration], extension: bool) -> usize
     requires { seen.now.declarations.now.in_order ≡ true → FilesAscend declarations.now }
     ensures { result ≡ times extension seen.now.reach.now declarations.now }
 {

@@ -26,7 +26,8 @@ mod ordered;
 mod seen;
 
 use crate::descriptor::FieldType;
-use by_hash::{declared_of, hash_of};
+use by_hash::declared_of;
+pub use by_hash::hash_of;
 pub use declare::{add_statement_names, file_scope, scope_of_package};
 pub use ordered::in_file;
 use protobuf_parse_syntax::Syntax;

@@ -16,7 +16,7 @@ use std::collections::btree_map::Entry;
 use std::hash::{FoldHasher, Hasher};
 use std::slice;
 
-/// The hash of a full name: a multiplication for each sixteen bytes.
+/// The hash of a name: a multiplication for each sixteen bytes.
 pub fn hash_of(name: &str) -> u64
     ensures { result ≡ hash_of name.now }
 {
