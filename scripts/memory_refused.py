@@ -52,9 +52,9 @@ def rows_of(name):
         head, mark, rows = case.partition("-- rows --\n")
         if not mark:
             yield line, case
-        for i, row in enumerate(rows.split("\n")):
-            if " => " in row and not row.startswith("#"):
-                yield line + head.count("\n") + 1 + i, head + mark + row + "\n"
+        for row in re.finditer(r"^(?![# ]).* => .*(\n    .*)*", rows, flags=re.M):
+            before = rows[: row.start()].count("\n")
+            yield line + head.count("\n") + 1 + before, head + mark + row[0] + "\n"
         line += case.count("\n")
 
 

@@ -29,7 +29,8 @@ def texts_of(content):
         verb = (parts[0].split("\n") + [""])[1].split(" ")[0]
         for head, body in zip(parts[1::2], parts[2::2]):
             if head == "rows" and verb in VERBS:
-                yield from (line.split(" => ")[0] for line in body.split("\n") if " => " in line)
+                rows = body.replace("\n    ", "").split("\n")
+                yield from (row.split(" => ")[0] for row in rows if " => " in row)
             elif head not in ("rows", "want"):
                 yield body.removesuffix("\n")
 

@@ -43,6 +43,14 @@ struct Part<'a> {
     lines: Vec<&'a str>,
 }
 
+/// A row as it is written, its lines joined.
+#[derive(Drop)]
+struct RowText {
+    /// The number of its first line.
+    line: usize,
+    text: String,
+}
+
 /// Which lines are heads.
 #[derive(Clone, Copy)]
 enum Head {
@@ -142,20 +150,38 @@ fn set_command(alloc: Global, case: &mut Case, section: &Part<'_>) -> Result<()>
 }
 
 fn add_rows(alloc: Global, case: &mut Case, section: &Part<'_>) -> Result<()> {
-    for (i, line) in section.lines.iter().enumerate() {
-        if line.is_empty() || line.starts_with('#') {
-            continue;
-        }
-        let (given, wanted) = line
+    let rows = row_texts(alloc, section)?;
+    for row in &rows {
+        let (given, wanted) = row
+            .text
             .split_once(" => ")
-            .ok_or_else(|| anyhow!("no ` => ` in {line:?}"))?;
+            .ok_or_else(|| anyhow!("no ` => ` in {:?}", row.text.as_str()))?;
         case.rows.push(Row {
-            line: section.line.saturating_add(i).saturating_add(1),
+            line: row.line,
             given: Some(bytes_of(alloc, given, None)?),
             wanted: bytes_of(alloc, wanted, None)?,
         })?;
     }
     Ok(())
+}
+
+/// The rows of a section: a line that begins with four blanks goes on with the row before it.
+fn row_texts(alloc: Global, section: &Part<'_>) -> Result<Vec<RowText>> {
+    let mut rows: Vec<RowText> = Vec::new(alloc);
+    for (i, line) in section.lines.iter().enumerate() {
+        if let Some(more) = line.strip_prefix("    ") {
+            let row = rows
+                .last_mut()
+                .context("no row goes on with its first line")?;
+            row.text.push_str(more)?;
+        } else if !line.is_empty() && !line.starts_with('#') {
+            rows.push(RowText {
+                line: section.line.saturating_add(i).saturating_add(1),
+                text: String::from_str(alloc, line)?,
+            })?;
+        }
+    }
+    Ok(rows)
 }
 
 fn add_want(alloc: Global, case: &mut Case, section: &Part<'_>) -> Result<()> {

@@ -140,17 +140,6 @@ pub fn seen(alloc: Global, trees: &Trees<'_>, from: usize) -> Result<Vec<usize>,
     positions_by(alloc, trees, from, Followed::Public)
 }
 
-/// The positions of the files that the file at this position reaches and that were not met before,
-/// its own first; they are met then. `met` has a flag a file.
-pub fn reached_further(
-    alloc: Global,
-    trees: &Trees<'_>,
-    met: &mut Vec<bool>,
-    from: usize,
-) -> Result<Vec<usize>, AllocError> {
-    positions_in(alloc, &walk_on(alloc, trees, met, from, Followed::All)?)
-}
-
 fn positions_by(
     alloc: Global,
     trees: &Trees<'_>,
@@ -183,19 +172,8 @@ fn walk_from(
     which: Followed,
 ) -> Result<Vec<Step>, AllocError> {
     let mut met = vec![in alloc; false; trees.files.len()]?;
-    walk_on(alloc, trees, &mut met, from, which)
-}
-
-/// The same of those files that were not met before.
-fn walk_on(
-    alloc: Global,
-    trees: &Trees<'_>,
-    met: &mut Vec<bool>,
-    from: usize,
-    which: Followed,
-) -> Result<Vec<Step>, AllocError> {
     let mut steps: Vec<Step> = Vec::new(alloc);
-    meet(met, &mut steps, from, 0)?;
+    meet(&mut met, &mut steps, from, 0)?;
     for by in 0..trees.files.len() {
         let Some(step) = steps.get(by) else {
             break;
@@ -208,7 +186,7 @@ fn walk_on(
                 continue;
             }
             if let Some(next) = trees.position(import.path.as_path().to_str()) {
-                meet(met, &mut steps, next, by)?;
+                meet(&mut met, &mut steps, next, by)?;
             }
         }
     }

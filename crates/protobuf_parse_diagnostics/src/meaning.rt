@@ -6,10 +6,10 @@ mod known;
 use crate::diagnostic::Diagnostic;
 use crate::kinds::values_of_option;
 use crate::loading::told_at;
-use crate::meaning::hints::{Hints, declared_twice, import_of_second};
+use crate::meaning::hints::{Hints, declared_twice};
 use crate::meaning::known::{Known, Sight, known_files};
 use crate::outline::Outline;
-use crate::places::{Firsts, fault_place};
+use crate::places::{Firsts, last_declared};
 use crate::sources::{Sources, Trees};
 use crate::syntax::Sentence;
 use protobuf_parse_model::{ElabError, ElabErrorKind};
@@ -141,7 +141,6 @@ fn plain_diagnostic(
 /// A file whose faults are told.
 #[derive(Drop)]
 struct Subject<'s, 'k, 't, 'a> {
-    trees: &'s Trees<'a>,
     sight: Sight<'s, 'k, 't, 'a>,
     own: &'k Outline<'t>,
     firsts: Firsts<'k, 't>,
@@ -160,7 +159,6 @@ impl<'s, 'k, 't, 'a> Subject<'s, 'k, 't, 'a> {
             return Ok(None);
         };
         Ok(Some(Subject {
-            trees,
             sight,
             own,
             firsts: Firsts::of(alloc, own)?,
@@ -175,22 +173,20 @@ impl<'s, 'k, 't, 'a> Subject<'s, 'k, 't, 'a> {
         error: &'e ElabError,
         hints: &mut Hints<'e>,
     ) -> Result<Diagnostic, AllocError> {
-        let mut place = fault_place(self.own, error);
+        let declared = last_declared(self.own, error);
         let found = match error.kind {
             ElabErrorKind::DuplicateName => first_one(alloc, &self.firsts, error)?,
             ElabErrorKind::TypeDeclaredTwice | ElabErrorKind::ExtensionDeclaredTwice => {
-                declared_twice(alloc, &self.sight, error, place)?
+                declared_twice(alloc, &self.sight, error, declared)?
             }
             _ => hints.hint(alloc, &self.sight, error)?,
         };
-        if place.is_none() {
-            place = import_of_second(alloc, self.trees, &self.sight, error)?;
-        }
         let Sentence { message, help } = plain_sentence(alloc, error)?;
         let sentence = Sentence {
             message,
             help: found.or(help),
         };
+        let place = Some(declared.unwrap_or(error.place));
         told_at(alloc, meaning_code(error.kind), origin, place, sentence)
     }
 }

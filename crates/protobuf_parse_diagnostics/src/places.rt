@@ -6,14 +6,15 @@ use protobuf_parse_syntax::Place;
 use std::alloc::{AllocError, Global};
 use std::collections::BTreeMap;
 
-/// The place of the fault: its own, but for a full name that is declared twice that of the last
-/// statement of the file that declares it. None where the file declares it nowhere.
-pub fn fault_place(own: &Outline<'_>, error: &ElabError) -> Option<Place> {
+/// The place of the last declaration of the file of the full name that is declared twice: of E5,
+/// which speaks of a message or an enum, or of E6, which speaks of an extension. None of other
+/// faults, and where the file declares it nowhere.
+pub fn last_declared(own: &Outline<'_>, error: &ElabError) -> Option<Place> {
     let what = error.what.as_str();
     match error.kind {
         ElabErrorKind::TypeDeclaredTwice => last_type(own, what),
         ElabErrorKind::ExtensionDeclaredTwice => last_extension(own, what),
-        _ => Some(error.place),
+        _ => None,
     }
 }
 

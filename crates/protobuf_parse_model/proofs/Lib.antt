@@ -8,7 +8,7 @@ pub mod ByHash
 pub mod Picks
 pub mod Counting
 pub mod Links
-pub mod Declaring
+pub mod DeclaringFiles
 pub mod LastDeclared
 pub mod DeclaredLevels
 pub mod Sights

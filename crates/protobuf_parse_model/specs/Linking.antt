@@ -42,7 +42,7 @@ declares_name extension name (Some t) = nat_lt 0 (occurrences name (full_names e
 abbrev pub repeated : List Text → List Text
 repeated names = filter (λ (name : Text). nat_lt 1 (occurrences name names)) names
 
--- A name that is declared twice stands nowhere in particular: it is told where the file begins.
+-- Whoever sees full names without their statements tells them where the file begins.
 abbrev pub beginning : Place
 beginning = record { line = 1; col = 1 }
 

@@ -15,7 +15,9 @@ use thiserror::Error;
 #[error("{kind}: {what}")]
 pub struct ElabError {
     /// Where the statement begins in which it stands, or the option that is wrong. E1: the second
-    /// of the declarations. E5, E6: where the file begins.
+    /// of the declarations. E5, E6: the last statement of the file that declares the name, or,
+    /// where the file declares it nowhere, the import with which the last of the files that do is
+    /// reached; [`link`](crate::link) alone, which sees no statements, tells the file's beginning.
     pub place: Place,
     pub kind: ElabErrorKind,
     /// E1: the name. E2, E3: the name of the type as written. E4, E8: the field's name. E5, E6: the

@@ -24,7 +24,8 @@ pub const BEGINNING: Place = Place { line: 1, col: 1 };
 ///
 /// Takes what a file sees: the declarations of files, and the numbers of those among them that it
 /// reaches, itself with them. Where the declarations are those that `Declarations::add` made of
-/// files one after the other, it tells a fault just where one stands, unless memory runs out:
+/// files one after the other, it tells a fault just where one stands, unless memory runs out, with
+/// the beginning of the file as its place:
 ///
 /// - E5: messages and enums, those behind maps and groups among them, have one full name;
 /// - E6: extensions have one full name.

@@ -30,7 +30,7 @@ use Rattle.protobuf_parse_model.specs.declared.customs.Construct.{Construct}
 use Rattle.protobuf_parse_model.specs.Environment.{no_customs, part_text, option_path_text}
 use Rattle.protobuf_parse_model.specs.BuiltinOptions.{Table, string_faults}
 pub use Rattle.protobuf_parse_model.specs.OptionTables.{table_of, option_names_in}
-use Rattle.protobuf_parse_model.specs.Linking.{before_others, link_faults}
+use Rattle.protobuf_parse_model.specs.Linking.{before_others}
 use Rattle.protobuf_parse_elaboration.specs.FileDescriptor.{environment, file_faults}
 use Rattle.protobuf_parse_elaboration.specs.OptionSets.{OptionSet, option_sets}
 use Rattle.protobuf_parse_wire.specs.Kinds.{shape_of_kind, fits}
@@ -208,15 +208,14 @@ custom_option_faults files visible t =
     (λ (s : OptionSet). custom_statement_faults (scope_of files visible s) s.construct s.statements)
     (option_sets t)
 
--- The faults that stand in a file which reaches the trees `reached` and sees the trees `seen`, in
--- three steps, of which each later one is looked at only where no earlier one has a fault: those of
--- names that are declared twice in what it reaches; its own, its custom options left out; and,
--- since
--- its descriptor says then what every type is, those of its custom options, by the descriptors of
--- the files that it reaches and of those that it sees.
-abbrev pub elaboration_faults : (reached seen : List FileSyntax)
+-- The faults that stand in a file which sees the trees `seen`, in three steps, of which each later
+-- one is looked at only where no earlier one has a fault: those of names that are declared twice in
+-- what it reaches, which are given; its own, its custom options left out; and, since its descriptor
+-- says then what every type is, those of its custom options, by the descriptors of the files that
+-- it reaches and of those that it sees.
+abbrev pub elaboration_faults : (repeats : List Fault) (seen : List FileSyntax)
     (files visible : List FileDescriptor) → FileSyntax → List Fault
-elaboration_faults reached seen files visible t =
-    before_others (link_faults reached)
+elaboration_faults repeats seen files visible t =
+    before_others repeats
     (before_others (file_faults (environment seen no_customs t) t)
     (custom_option_faults files visible t))

@@ -1,13 +1,14 @@
 -- Two runs that agree on the files that a file reaches: the file is alike in both.
-use Rattle.std.proofs.Common.{◌≡◌, true, inl, inr, List, [], ◌∷◌, ◌++◌, Option, Some, None, refl}
+use Rattle.std.proofs.Common.{◌≡◌, Bool, true, inl, inr, List, [], ◌∷◌, ◌++◌, Option, Some, None, refl}
 use Rattle.std.proofs.Common.{sym, ◌∙◌, ap, subst}
 use Rattle.std.specs.Prelude.{map, option_to_list}
+use Rattle.protobuf_parse_lexer.specs.declared.lexer.token.Place.{Place}
 use Rattle.protobuf_parse_syntax.specs.Trees.{FileSyntax}
 use Rattle.protobuf_parse_model.specs.Descriptors.{Text, FileDescriptor}
 use Rattle.protobuf_parse_model.specs.Declarations.{DeclaredType, file_scope}
 use Rattle.protobuf_parse_model.specs.Environment.{Customs, Environment, no_customs}
 use Rattle.protobuf_parse_model.specs.Faults.{Among, Fault}
-use Rattle.protobuf_parse_model.specs.Linking.{before_others, link_faults}
+use Rattle.protobuf_parse_model.specs.Linking.{before_others, declares_name, link_faults}
 use Rattle.protobuf_parse_elaboration.specs.FileDescriptor.{environment, file_faults, file_of}
 use Rattle.protobuf_parse_elaboration.specs.FilesByPath.{AreDistinct, AreJust, leads, stays}
 use Rattle.protobuf_parse_elaboration.specs.FilesByPath.{trees_at}
@@ -15,15 +16,18 @@ use Rattle.protobuf_parse_elaboration.proofs.Orders.{SameMembers, first-among, j
 use Rattle.protobuf_parse_elaboration.proofs.Orders.{link-told, types-same}
 use Rattle.protobuf_parse_options.specs.OptionBytes.{known_customs}
 use Rattle.protobuf_parse_run.specs.Walks.{Trees, Reaches, HandsOn, Sees, sees_itself, by_import}
-use Rattle.protobuf_parse_run.specs.Walks.{among}
+use Rattle.protobuf_parse_run.specs.Walks.{among, import_paths}
+use Rattle.protobuf_parse_run.specs.Repeats.{declaring, repeat_faults, repeat_place, told_at}
 use Rattle.protobuf_parse_run.specs.Run.{Files, HasTrees, HaveTrees, IsTree, customs_of}
 use Rattle.protobuf_parse_run.specs.Run.{environment_of, faults_at, plain_of, plains_at, text_for}
 use Rattle.protobuf_parse_run.specs.Stability.{AgreeOn, DeclaresOnce, IsAlike, WereRead}
 use Rattle.protobuf_parse_run.proofs.Keeping.{or_right}
 use Rattle.protobuf_parse_run.proofs.Knowing.{public-imported, sees-reaches}
 use Rattle.protobuf_parse_run.proofs.Reordering.{customs-same, packages-have}
+use Rattle.protobuf_parse_run.proofs.Repeating.{AreAlike, among-path, kept, kept-from, none-of}
+use Rattle.protobuf_parse_run.proofs.Repeating.{path-among, repeat_place-same, told-same}
 use Rattle.protobuf_parse_run.proofs.Spelling.{others, others_by, told_by}
-use Rattle.protobuf_parse_run.proofs.Settling.{told-after, told-before, which-told}
+use Rattle.protobuf_parse_run.proofs.FirstFaults.{told-after, told-before, which-told}
 
 -- ** what is reached and seen
 
@@ -128,7 +132,7 @@ module _ (old new : Files) (p : Text) (was : WereRead old) (is : WereRead new)
       (types-same old.trees reached (old.seen p) (new.seen p) once same-sight
       (λ q m. all q (sees-reaches old.trees p q ((was.listed.sees p).only q m))) none))
 
--- ** faults and descriptors
+-- ** the files that it reaches
 
 module _ (old new : Files) (p : Text) (was : WereRead old) (is : WereRead new)
     (agree : AgreeOn (Reaches old.trees p) old.trees new.trees) where
@@ -143,9 +147,19 @@ module _ (old new : Files) (p : Text) (was : WereRead old) (is : WereRead new)
   same-reach = just-same (Reaches old.trees p) (old.reached p) (new.reached p)
       (was.listed.reaches p) reached-again
 
+-- ** faults and descriptors
+
+module _ (old new : Files) (p : Text) (was : WereRead old) (is : WereRead new)
+    (agree : AgreeOn (Reaches old.trees p) old.trees new.trees) where
+  abbrev again : AreJust (Reaches old.trees p) (new.reached p)
+  again = reached-again old new p was is agree
+
+  abbrev same : SameMembers (old.reached p) (new.reached p)
+  same = same-reach old new p was is agree
+
   reach-is : trees_at new.trees (new.reached p) ≡ trees_at old.trees (new.reached p)
   reach-is = trees-alike old.trees new.trees (new.reached p)
-      (λ q h. agree q (reached-again.only q h))
+      (λ q h. agree q (again.only q h))
 
   abbrev linked : List Fault
   linked = link_faults (trees_at old.trees (old.reached p))
@@ -159,11 +173,11 @@ module _ (old new : Files) (p : Text) (was : WereRead old) (is : WereRead new)
   link-stays : (f : Fault) → Among linked f → Among relinked f
   link-stays f m = subst (λ (fs : List Fault). Among fs f) (sym relinked-is)
       (link-told old.trees (old.reached p) (new.reached p) f (was.listed.reaches p).once
-      (is.listed.reaches p).once same-reach m)
+      (is.listed.reaches p).once same m)
 
   once-again : linked ≡ [] → relinked ≡ []
   once-again none = relinked-is ∙ link-none old.trees (old.reached p) (new.reached p)
-      (was.listed.reaches p).once (is.listed.reaches p).once same-reach none
+      (was.listed.reaches p).once (is.listed.reaches p).once same none
 
   -- a file that it reaches sees the same types
   same-at : linked ≡ [] → (q : Text) → Reaches old.trees p q → (c : Customs) (t : FileSyntax)
@@ -185,17 +199,17 @@ module _ (old new : Files) (p : Text) (was : WereRead old) (is : WereRead new)
 
   same-customs : linked ≡ [] → customs_of new p ≡ customs_of old p
   same-customs none =
-      let again = seen-again old new p was is agree in
+      let sight = seen-again old new p was is agree in
       let within : (q : Text) → among q (old.seen p) ≡ true → among q (old.reached p) ≡ true =
       λ q m. (was.listed.reaches p).all q
       (sees-reaches old.trees p q ((was.listed.sees p).only q m)) in
       ap (λ ds. known_customs ds (plains_at new (new.seen p)))
-      (plains-same none (new.reached p) reached-again.only)
+      (plains-same none (new.reached p) again.only)
       ∙ ap (λ ds. known_customs (plains_at old (new.reached p)) ds)
       (plains-same none (new.seen p)
-      (λ q m. sees-reaches old.trees p q (again.only q m)))
+      (λ q m. sees-reaches old.trees p q (sight.only q m)))
       ∙ sym (customs-same old (old.reached p) (new.reached p) (old.seen p) (new.seen p)
-      (packages-have old.bundled old.reads old.trees was.trees) same-reach
+      (packages-have old.bundled old.reads old.trees was.trees) same
       (same-sight old new p was is agree) within none)
 
   module _ (t : FileSyntax) where
@@ -215,24 +229,86 @@ module _ (old new : Files) (p : Text) (was : WereRead old) (is : WereRead new)
         ∙ ap (λ (c : Customs). others_by (trees_at old.trees (old.seen p)) c t)
         (same-customs none)
 
-    faults-some : (f : Fault) → Among (faults_at old p (Some t)) f
+    -- ** where names are told that are declared twice
+
+    -- a file that is imported reaches the same files
+    reaches-alike : old.trees p ≡ Some t → (q : Text) → among q (import_paths t) ≡ true
+        → (x y : Text) → x ≡ y → among x (old.reached q) ≡ among y (new.reached q)
+    reaches-alike at q i x y e =
+        let on : Reaches old.trees p q = leads p q q t at i (stays q) in
+        same-reach old new q was is (λ r h. agree r (reaches-on old.trees p q r on h)) x
+        ∙ ap (λ (z : Text). among z (new.reached q)) e
+
+    -- the same files declare a name
+    declared-alike : (extension : Bool) (name : Text)
+        → AreAlike (λ (x : Text) y. x ≡ y) (declaring old.trees extension name (old.reached p))
+        (declaring new.trees extension name (new.reached p))
+    declared-alike extension name = record {
+      into = λ x h.
+          let k = kept-from (λ (z : Text). declares_name extension name (old.trees z))
+          (old.reached p) h in
+          let m = among-path (old.reached p) k.0 in (
+            x,
+            kept (λ (z : Text). declares_name extension name (new.trees z)) (new.reached p)
+                (path-among (new.reached p) x (sym (same x) ∙ m))
+                (ap (declares_name extension name) (agree x ((was.listed.reaches p).only x m))
+                ∙ k.1),
+            refl,
+          );
+      back = λ x h.
+          let k = kept-from (λ (z : Text). declares_name extension name (new.trees z))
+          (new.reached p) h in
+          let m = among-path (new.reached p) k.0 in (
+            x,
+            kept (λ (z : Text). declares_name extension name (old.trees z)) (old.reached p)
+                (path-among (old.reached p) x (same x ∙ m))
+                (ap (declares_name extension name) (sym (agree x (again.only x m))) ∙ k.1),
+            refl,
+          );
+    }
+
+    abbrev place_in : Files → Bool → Text → Place
+    place_in files extension name = repeat_place (λ q r. among r (files.reached q))
+        (declaring files.trees extension name (files.reached p)) t extension name
+
+    places-same : old.trees p ≡ Some t → (extension : Bool) (name : Text)
+        → place_in old extension name ≡ place_in new extension name
+    places-same at extension name =
+        repeat_place-same (λ q r. among r (old.reached q)) (λ q r. among r (new.reached q))
+        (λ (x : Text) y. x ≡ y) t (reaches-alike at)
+        (declaring old.trees extension name (old.reached p))
+        (declaring new.trees extension name (new.reached p)) (declared-alike extension name)
+        extension name
+
+    abbrev repeats : Files → List Fault
+    repeats files = repeat_faults files.trees files.reached p t
+
+    repeats-none : repeats old ≡ [] → linked ≡ []
+    repeats-none none = none-of (told_at (place_in old)) linked none
+
+    repeats-again : repeats old ≡ [] → repeats new ≡ []
+    repeats-again none = ap (map (told_at (place_in new))) (once-again (repeats-none none))
+
+    faults-some : old.trees p ≡ Some t → (f : Fault) → Among (faults_at old p (Some t)) f
         → Among (faults_at new p (Some t)) f
-    faults-some f m =
-        elim (which-told linked (others old p t) f m) [
-          | inl w ↦ told-before relinked (others new p t) f (link-stays f w)
-          | inr w ↦ told-after relinked (others new p t) f (once-again w.0)
-              (subst (λ (fs : List Fault). Among fs f) (sym (others-same w.0)) w.1)
+    faults-some at f m =
+        elim (which-told (repeats old) (others old p t) f m) [
+          | inl w ↦ told-before (repeats new) (others new p t) f
+              (told-same (place_in old) (place_in new) linked relinked f (places-same at)
+              link-stays w)
+          | inr w ↦ told-after (repeats new) (others new p t) f (repeats-again w.0)
+              (subst (λ (fs : List Fault). Among fs f) (sym (others-same (repeats-none w.0))) w.1)
         ]
 
-  faults-at : (o : Option FileSyntax) (f : Fault) → Among (faults_at old p o) f
-      → Among (faults_at new p o) f
-  faults-at None f m = m
-  faults-at (Some t) f m = faults-some t f m
+  faults-at : (o : Option FileSyntax) → old.trees p ≡ o → (f : Fault)
+      → Among (faults_at old p o) f → Among (faults_at new p o) f
+  faults-at None at f m = m
+  faults-at (Some t) at f m = faults-some t at f m
 
   pub faults-stay : (f : Fault) → Among (faults_at old p (old.trees p)) f
       → Among (faults_at new p (new.trees p)) f
   faults-stay f m = subst (λ (o : Option FileSyntax). Among (faults_at new p o) f)
-      (sym (agree p (stays p))) (faults-at (old.trees p) f m)
+      (sym (agree p (stays p))) (faults-at (old.trees p) refl f m)
 
 pub alike : (old new : Files) (p : Text) → WereRead old → WereRead new
     → AgreeOn (Reaches old.trees p) old.trees new.trees → IsAlike old new p

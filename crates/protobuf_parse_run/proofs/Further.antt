@@ -6,10 +6,8 @@ use Rattle.protobuf_parse_syntax.specs.Trees.{FileSyntax}
 use Rattle.protobuf_parse_model.specs.Descriptors as described
 use Rattle.protobuf_parse_model.specs.Descriptors.{Text, FileDescriptor}
 use Rattle.protobuf_parse_model.specs.Faults.{Fault}
-use Rattle.protobuf_parse_model.specs.Linking.{link_faults}
 use Rattle.protobuf_parse_model.specs.declared.descriptor.FileDescriptorProto.{FileDescriptorProto}
 use Rattle.protobuf_parse_elaboration.specs.FileDescriptor.{file_of}
-use Rattle.protobuf_parse_elaboration.specs.FilesByPath.{trees_at}
 use Rattle.protobuf_parse_run.specs.Walks.{Asked, the_resolver, Input, Event, load, elab, keep}
 use Rattle.protobuf_parse_run.specs.Walks.{among, Trees, Reaches, import_paths, walks_joined}
 use Rattle.protobuf_parse_run.specs.Walks.{events_inside, walk, checks, input_walk, events_after}
@@ -24,7 +22,7 @@ use Rattle.protobuf_parse_run.proofs.Keeping.{has-left, never_both, or_left, or_
 use Rattle.protobuf_parse_run.proofs.Keeping.{text-same}
 use Rattle.protobuf_parse_run.proofs.Walking.{walk-load, walk-no_room, walk-on_chain}
 use Rattle.protobuf_parse_run.proofs.Inputs.{events-append}
-use Rattle.protobuf_parse_run.proofs.Settling.{none-before}
+use Rattle.protobuf_parse_run.proofs.Repeating.{once-told}
 use Rattle.protobuf_parse_run.proofs.Spelling.{others}
 use Rattle.protobuf_parse_run.proofs.Agreeing.{alike}
 use Rattle.protobuf_parse_run.proofs.Joining.{events-extend, events-keep, has-joined, joined-same}
@@ -123,8 +121,7 @@ module _ (files : Files) (inputs : List Input) (clean : IsClean files inputs) wh
   -- and none of them declares a name twice
   pub declared-once : (p : Text) (t : FileSyntax) → files.trees p ≡ Some t
       → IsFileOfRun files.trees inputs p → DeclaresOnce files p
-  declared-once p t is h = none-before (link_faults (trees_at files.trees (files.reached p)))
-      (others files p t) (faultless-file p t is h)
+  declared-once p t is h = once-told files p t (others files p t) (faultless-file p t is h)
 
 -- ** further inputs
 

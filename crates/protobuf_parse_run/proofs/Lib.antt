@@ -18,6 +18,8 @@ pub mod Knowing
 pub mod Spelling
 pub mod Reordering
 pub mod Faulty
+pub mod FirstFaults
+pub mod Repeating
 pub mod Settling
 pub mod Listed
 pub mod Stacks

@@ -8,7 +8,6 @@ use Rattle.protobuf_parse_syntax.specs.Trees.{FileSyntax}
 use Rattle.protobuf_parse_model.specs.Descriptors.{Text}
 use Rattle.protobuf_parse_model.specs.Faults.{Among}
 use Rattle.protobuf_parse_model.specs.Environment.{no_customs}
-use Rattle.protobuf_parse_model.specs.Linking.{link_faults}
 use Rattle.protobuf_parse_model.specs.declared.descriptor.FileDescriptorProto.{FileDescriptorProto}
 use Rattle.protobuf_parse_elaboration.specs.FileDescriptor.{environment, file_faults}
 use Rattle.protobuf_parse_elaboration.specs.FilesByPath.{among, leads, stays, trees_at}
@@ -34,6 +33,7 @@ use Rattle.protobuf_parse_options.proofs.WithoutOptions.{customs_are_options}
 use Rattle.protobuf_parse_options.proofs.WithoutOptions.{customs_make_no_difference}
 use Rattle.protobuf_parse_options.proofs.WithoutOptions.{meaning_ignores_options}
 use Rattle.protobuf_parse_run.specs.Walks.{Input, Reaches}
+use Rattle.protobuf_parse_run.specs.Repeats.{repeat_faults}
 use Rattle.protobuf_parse_run.specs.Run.{Files, IsTree, Legal, RunsAsTold, environment_of}
 use Rattle.protobuf_parse_run.specs.Run.{plain_environments, plains_at, text_read}
 use Rattle.protobuf_parse_run.specs.Recovered.{HoldsOptions, IsReadBack, OptionsAreHeld, bytes_in}
@@ -45,7 +45,8 @@ use Rattle.protobuf_parse_run.specs.declared.log.ReadEntry.{ReadEntry}
 use Rattle.protobuf_parse_run.proofs.Agreeing.{reaches-on}
 use Rattle.protobuf_parse_run.proofs.Further.{faultless-file, reached-is}
 use Rattle.protobuf_parse_run.proofs.Knowing.{sees-reaches}
-use Rattle.protobuf_parse_run.proofs.Settling.{none-after, none-before}
+use Rattle.protobuf_parse_run.proofs.FirstFaults.{none-after, none-before}
+use Rattle.protobuf_parse_run.proofs.Repeating.{once-told}
 use Rattle.protobuf_parse_run.proofs.Spelling.{others}
 
 -- a `Vec` has fewer bytes than there are addresses
@@ -64,7 +65,7 @@ module _ (files : Files) (inputs : List Input) (clean : IsClean files inputs)
   no-others : (q : Text) (u : FileSyntax) → files.trees q ≡ Some u
       → IsFileOfRun files.trees inputs q
       → others files q u ≡ []
-  no-others q u at h = none-after (link_faults (trees_at files.trees (files.reached q)))
+  no-others q u at h = none-after (repeat_faults files.trees files.reached q u)
       (others files q u) (faultless-file files inputs clean q u at h)
 
   pub own-faultless : (q : Text) (u : FileSyntax) → files.trees q ≡ Some u
@@ -120,8 +121,7 @@ module _ (files : Files) (inputs : List Input) (clean : IsClean files inputs)
     whole = λ r h x k. (read.listed.reaches q).all x
         (reaches-on files.trees q r x ((read.listed.reaches q).only r h)
         ((read.listed.reaches r).only x k));
-    once = none-before (link_faults (trees_at files.trees (files.reached q))) (others files q u)
-        (faultless-file files inputs clean q u is m);
+    once = once-told files q u (others files q u) (faultless-file files inputs clean q u is m);
   }
 
   -- enums' values have 32 bits, as the grammar says

@@ -1,12 +1,15 @@
 -- What a file becomes over numbered files is what it becomes over the files that it reaches and
 -- sees, however these are listed.
-use Rattle.std.proofs.Common.{◌≡◌, ◌⊎◌, ℕ, zero, suc, ◌≤◌, Bool, true, false, not, ◌||◌, inl, inr}
+use Rattle.std.proofs.Common.{◌≡◌, ℕ, zero, suc, ◌≤◌, Bool, true, false, not, ◌||◌, inl, inr}
 use Rattle.std.proofs.Common.{List, [], ◌∷◌, ◌++◌, flat_map, map, Option, Some, None, option_map}
 use Rattle.std.proofs.Common.{refl, sym, ◌∙◌, ap, subst, arith, Result, Ok, Err, append_assoc}
 use Rattle.std.proofs.Common.{Contains}
 use Rattle.std.specs.Prelude.{bytes_eq, if◌then◌else◌, slice_get, option_to_list, string_bytes}
+use Rattle.std.specs.Prelude.{nat_eq}
+use Rattle.protobuf_parse_lexer.specs.declared.lexer.token.Place.{Place}
 use Rattle.std.specs.List.{AllByRecursion, list_any}
 use Rattle.std.specs.List.Sorted.{IsStrictlyIncreasing}
+use Rattle.std.proofs.lemmas.Bool.Decides.{Decides-eqb}
 use Rattle.std.proofs.lemmas.Option.{slice_get-map}
 use Rattle.std.proofs.lemmas.List.{map-append}
 use Rattle.std.proofs.lemmas.List.Elements.{Contains-append_left, Contains-append_right}
@@ -17,7 +20,7 @@ use Rattle.protobuf_parse_model.specs.Declarations.{DeclaredType, file_scope}
 use Rattle.protobuf_parse_model.specs.Environment.{Customs, Environment, no_customs}
 use Rattle.protobuf_parse_model.specs.Faults.{Among, there, fault_view}
 use Rattle.protobuf_parse_model.specs.Faults as elaborating
-use Rattle.protobuf_parse_model.specs.Linking.{before_others, link_faults}
+use Rattle.protobuf_parse_model.specs.Linking.{before_others, declares_name, link_faults}
 use Rattle.protobuf_parse_model.specs.Tables.{picked}
 use Rattle.protobuf_parse_model.proofs.Picks.{Rises, rises}
 use Rattle.protobuf_parse_elaboration.specs.FileDescriptor.{environment, file_faults, file_of}
@@ -35,6 +38,7 @@ use Rattle.protobuf_parse_run.specs.Run.{Files, FilesAreListed, StandsInElab, cu
 use Rattle.protobuf_parse_run.specs.Run.{environment_of, ending_faults, faults_at, is_faulty}
 use Rattle.protobuf_parse_run.specs.Run.{is_nothing, origin_given, own_faults, plain_of, plains_at}
 use Rattle.protobuf_parse_run.specs.Run.{report_at}
+use Rattle.protobuf_parse_run.specs.Repeats.{declaring, repeat_faults, repeat_place, told_at}
 use Rattle.protobuf_parse_run.specs.Loading.{Agrees, AreJoined, AreKnown, FilesAreNumbered}
 use Rattle.protobuf_parse_run.specs.Loading.{AreNumbersOf, LoadedEntry, IsLoaded, IsNumbered, Named}
 use Rattle.protobuf_parse_run.specs.Loading.{Settles, SettlesOver, any_faulty, customs_over}
@@ -42,7 +46,9 @@ use Rattle.protobuf_parse_run.specs.Loading.{ending_over, faults_over, file_at, 
 use Rattle.protobuf_parse_run.specs.Loading.{own_over, report_over, file_over, named_trees}
 use Rattle.protobuf_parse_run.specs.Loading.{paths_in, picked_descriptors, descriptor_in}
 use Rattle.protobuf_parse_run.specs.Loading.{plain_over, descriptors_next, tree_in, trees_of}
-use Rattle.protobuf_parse_run.specs.Loading.{with_next}
+use Rattle.protobuf_parse_run.specs.Loading.{with_next, declaring_numbers, reach_in, reaches_number}
+use Rattle.protobuf_parse_run.specs.Loading.{repeat_place_over, repeats_over}
+use Rattle.protobuf_parse_run.specs.declared.loader.LoadedFile.{LoadedFile}
 use Rattle.protobuf_parse_run.specs.declared.fault.RunFault.{RunFault}
 use Rattle.protobuf_parse_run.specs.declared.fault.RunFault.TheVariants as fault
 use Rattle.protobuf_parse_run.specs.declared.loader.LoadedAs.{LoadedAs}
@@ -52,11 +58,17 @@ use Rattle.protobuf_parse_run.proofs.Keeping.{or_cases, or_left, or_right, among
 use Rattle.protobuf_parse_run.proofs.Keeping.{text-true}
 use Rattle.protobuf_parse_run.proofs.Knowing.{agrees-push, next-trees, leads-out, once-push}
 use Rattle.protobuf_parse_run.proofs.Knowing.{sees-out, sees-reaches}
-use Rattle.protobuf_parse_run.proofs.Numbers.{name_of, numbers-joined, only-one}
+use Rattle.protobuf_parse_run.proofs.Numbers.{name_of, numbered-more, numbers-joined, only-one}
+use Rattle.protobuf_parse_run.proofs.Numbers.{path-in}
 use Rattle.protobuf_parse_run.proofs.Steps.{get-more}
+use Rattle.protobuf_parse_run.proofs.FirstFaults.{no-others, none-after, none-before, told-after}
+use Rattle.protobuf_parse_run.proofs.FirstFaults.{told-before, which-told}
 use Rattle.protobuf_parse_run.proofs.Faulty.{any-number, any-text, at-end, entry-at, faulty-entry}
 use Rattle.protobuf_parse_run.proofs.Faulty.{number-any, same-bool, text-any}
 use Rattle.protobuf_parse_run.proofs.Reordering.{HavePackages, customs-same}
+use Rattle.protobuf_parse_run.proofs.Repeating.{AgreeAt, AreAlike, among-number, among-path, found-at}
+use Rattle.protobuf_parse_run.proofs.Repeating.{kept, kept-from, none-of, number-among, path-among}
+use Rattle.protobuf_parse_run.proofs.Repeating.{repeat_place-same, told-same}
 use Rattle.protobuf_parse_run.proofs.Spelling.{others, others_by, told_by}
 
 -- ** files by numbers and by paths
@@ -274,6 +286,18 @@ distinct-by files n [] d h = tt
 distinct-by files n (m ∷ ns) d h =
     with-first files m ns d h.1 (distinct-by files (suc m) ns d h.1) (slice_get files m) refl
 
+-- what stands at a number has one path
+one-path : (o : Option Named) (q p : Text) (u v : FileSyntax) → o ≡ Some (q, u)
+    → o ≡ Some (p, v) → q ≡ p
+one-path o q p u v h k = some_is (q, u) (p, v) (sym h ∙ k)
+  where
+    some_is : (a b : Named) → Some a ≡ Some b → a.0 ≡ b.0
+    some_is a b h = ap (λ (o : Option Named). name (path_of o)) h
+      where
+        name : List Text → Text
+        name [] = []
+        name (z ∷ zs) = z
+
 pub just-by : (Has : Text → Type 0) (files : List Named) (ns : List ℕ)
     → AreDistinct (paths_in files) → IsStrictlyIncreasing ns → AreNumbersOf Has files ns
     → AreJust Has (paths_by files ns)
@@ -286,50 +310,18 @@ just-by Has files ns d up are = record {
       subst Has same s.2;
   all = λ p h. let s = are.complete p h in by-path files ns p s.0 s.1 s.2;
 }
-  where
-    one-path : (o : Option Named) (q p : Text) (u v : FileSyntax) → o ≡ Some (q, u)
-        → o ≡ Some (p, v) → q ≡ p
-    one-path o q p u v h k = some_is (q, u) (p, v) (sym h ∙ k)
-      where
-        some_is : (a b : Named) → Some a ≡ Some b → a.0 ≡ b.0
-        some_is a b h = ap (λ (o : Option Named). name (path_of o)) h
-          where
-            name : List Text → Text
-            name [] = []
-            name (z ∷ zs) = z
 
--- ** faults
+-- ** names that files declare
 
-pub none-before : (firsts others : List elaborating.Fault) → before_others firsts others ≡ []
-    → firsts ≡ []
-none-before [] others h = refl
-none-before (a ∷ firsts) others h = h
+named-of : (o : Option Named) (u : FileSyntax) → option_map (λ (f : Named). f.1) o ≡ Some u
+    → (q : Text) × (v : FileSyntax) × (o ≡ Some (q, v))
+named-of None u h = cc
+named-of (Some f) u h = (f.0, f.1, refl)
 
-pub none-after : (firsts others : List elaborating.Fault) → before_others firsts others ≡ []
-    → others ≡ []
-none-after [] others h = h
-none-after (a ∷ firsts) others h = cc
-
-no-others : (firsts others : List elaborating.Fault) → firsts ≡ [] → others ≡ []
-    → before_others firsts others ≡ []
-no-others firsts others h k = rw (h, k) refl
-
-pub told-before : (firsts others : List elaborating.Fault) (f : elaborating.Fault) → Among firsts f
-    → Among (before_others firsts others) f
-told-before [] others f m = absurd (no-member f m)
-  where
-    no-member : (f : elaborating.Fault) → Among [] f → ⊥
-    no-member f m = elim m [ ]
-told-before (a ∷ firsts) others f m = m
-
-pub told-after : (firsts others : List elaborating.Fault) (f : elaborating.Fault) → firsts ≡ []
-    → Among others f → Among (before_others firsts others) f
-told-after firsts others f h m = rw h m
-
-pub which-told : (firsts others : List elaborating.Fault) (f : elaborating.Fault)
-    → Among (before_others firsts others) f → Among firsts f ⊎ ((firsts ≡ []) × Among others f)
-which-told [] others f m = inr (refl, m)
-which-told (a ∷ firsts) others f m = inl m
+declared-some : (extension : Bool) (name : Text) (o : Option FileSyntax)
+    → declares_name extension name o ≡ true → (u : FileSyntax) × (o ≡ Some u)
+declared-some extension name None h = cc
+declared-some extension name (Some u) h = (u, refl)
 
 -- ** the next file
 
@@ -409,6 +401,122 @@ module _ (files : Files) (loaded : List LoadedEntry) (tables : Tables) (log : Li
   link-again h = link-none files.trees rs (files.reached p) reached-by.once
       (n.listed.reaches p).once same-reach h
 
+  -- ** where names are told that are declared twice
+
+  -- the number is that of the path
+  abbrev IsOf : ℕ → Text → Type 0
+  IsOf m q = IsNumbered with_p m q
+
+  -- a file that is imported reaches by numbers what it reaches by paths
+  reaches-same : (q : Text) → among q (import_paths t) ≡ true
+      → AgreeAt (reaches_number loaded) (λ r s. among s (files.reached r)) IsOf q
+  reaches-same q i m r is =
+      let b = path-in (named_trees loaded) below (import_paths t) q n.numbered i in
+      let e = entry-at loaded b.0 (q, b.2.0) b.2.1 in
+      let named : string_bytes e.0.0 ≡ q = ap (λ (f : Named). f.0) e.2 in
+      let found : file_at q loaded ≡ Some e.0.1 =
+      subst (λ (z : Text). file_at z loaded ≡ Some e.0.1) named
+      (found-at loaded b.0 e.0 n.known.once e.1) in
+      let numbers = e.0.1.reach.items in
+      let holds : AreNumbersOf (Reaches files.trees q) (named_trees loaded) numbers =
+      subst (λ (z : Text). AreNumbersOf (Reaches files.trees z) (named_trees loaded) numbers)
+      named (n.known.reach files.trees n.agrees b.0 e.0 e.1) in
+      ap (λ (o : Option LoadedFile). list_any (λ (k : ℕ). nat_eq k m) (reach_in o)) found
+      ∙ same-bool (list_any (λ (k : ℕ). nat_eq k m) numbers) (among r (files.reached q))
+      (λ h.
+      let k = number-any (λ (z : ℕ). nat_eq z m) numbers h in
+      let s = holds.sound m (subst (λ (z : ℕ). Contains numbers z)
+      ((Decides-eqb k.0 m).0 k.2) k.1) in
+      let at = numbered-more (named_trees loaded) ((p, t) ∷ []) m s.0 s.1 in
+      subst (λ (z : Text). among z (files.reached q) ≡ true)
+      (one-path (slice_get with_p m) s.0 r at.0 is.0 at.1 is.1)
+      ((n.listed.reaches q).all s.0 s.2))
+      (λ h.
+      let s = holds.complete r ((n.listed.reaches q).only r h) in
+      let at = numbered-more (named_trees loaded) ((p, t) ∷ []) s.0 r s.2 in
+      any-number (λ (z : ℕ). nat_eq z m) numbers m
+      (subst (λ (k : ℕ). Contains numbers k) (one-number with_p s.0 m r once-p at is) s.1)
+      ((Decides-eqb m m).1 refl))
+
+  tree-at : (m : ℕ) (q : Text) → IsOf m q → slice_get (with_next loaded t) m ≡ files.trees q
+  tree-at m q is =
+      ap (λ (ts : List FileSyntax). slice_get ts m) (next-trees loaded p t)
+      ∙ slice_get-map (λ (f : Named). f.1) with_p m
+      ∙ ap (option_map (λ (f : Named). f.1)) is.1
+      ∙ sym (agrees-p m q is.0 is.1)
+
+  numbered-here : (m : ℕ) (u : FileSyntax) → slice_get (with_next loaded t) m ≡ Some u
+      → (q : Text) × IsOf m q
+  numbered-here m u is =
+      named-of (slice_get with_p m) u
+      (sym (slice_get-map (λ (f : Named). f.1) with_p m)
+      ∙ ap (λ (ts : List FileSyntax). slice_get ts m) (sym (next-trees loaded p t)) ∙ is)
+
+  -- the same files declare a name
+  declared-alike : (extension : Bool) (name : Text)
+      → AreAlike IsOf (declaring_numbers (with_next loaded t) extension name reach)
+      (declaring files.trees extension name (files.reached p))
+  declared-alike extension name = record {
+    into = λ m h.
+        let k = kept-from
+        (λ (z : ℕ). declares_name extension name (slice_get (with_next loaded t) z)) reach h in
+        let some = declared-some extension name (slice_get (with_next loaded t) m) k.1 in
+        let at = numbered-here m some.0 some.1 in (
+          at.0,
+          kept (λ (q : Text). declares_name extension name (files.trees q)) (files.reached p)
+              (path-among (files.reached p) at.0 (sym (same-reach at.0)
+              ∙ by-path with_p reach at.0 m (among-number reach k.0) at.1))
+              (ap (declares_name extension name) (sym (tree-at m at.0 at.1)) ∙ k.1),
+          at.1,
+        );
+    back = λ q h.
+        let k = kept-from (λ (z : Text). declares_name extension name (files.trees z))
+        (files.reached p) h in
+        let r = by-number with_p reach q (same-reach q ∙ among-path (files.reached p) k.0) in (
+          r.0,
+          kept (λ (z : ℕ). declares_name extension name (slice_get (with_next loaded t) z)) reach
+              (number-among reach r.0 r.1)
+              (ap (declares_name extension name) (tree-at r.0 q r.2) ∙ k.1),
+          r.2,
+        );
+  }
+
+  abbrev place_over : Bool → Text → Place
+  place_over = repeat_place_over loaded (with_next loaded t) reach t
+
+  abbrev place_in : Bool → Text → Place
+  place_in extension name = repeat_place (λ q r. among r (files.reached q))
+      (declaring files.trees extension name (files.reached p)) t extension name
+
+  places-same : (extension : Bool) (name : Text) → place_over extension name
+      ≡ place_in extension name
+  places-same extension name =
+      repeat_place-same (reaches_number loaded) (λ q r. among r (files.reached q)) IsOf t
+      reaches-same (declaring_numbers (with_next loaded t) extension name reach)
+      (declaring files.trees extension name (files.reached p)) (declared-alike extension name)
+      extension name
+
+  abbrev repeats : List elaborating.Fault
+  repeats = repeats_over loaded (with_next loaded t) reach t
+
+  abbrev repeats_in : List elaborating.Fault
+  repeats_in = repeat_faults files.trees files.reached p t
+
+  repeats-none : repeats ≡ [] → linked ≡ []
+  repeats-none h = sym linked-is
+      ∙ none-of (told_at place_over) (link_faults (picked (with_next loaded t) reach)) h
+
+  repeats-again : repeats ≡ [] → repeats_in ≡ []
+  repeats-again h = ap (map (told_at place_in)) (link-again (repeats-none h))
+
+  repeats-told : (f : elaborating.Fault) → Among repeats f → Among repeats_in f
+  repeats-told f m =
+      told-same place_over place_in (link_faults (picked (with_next loaded t) reach)) linked_in f
+      places-same
+      (λ (x : elaborating.Fault) h.
+      link-told files.trees rs (files.reached p) x reached-by.once (n.listed.reaches p).once
+      same-reach (subst (λ (fs : List elaborating.Fault). Among fs x) linked-is h)) m
+
   sight-is : picked (with_next loaded t) sight ≡ trees_at files.trees ss
   sight-is = ap (λ (ts : List FileSyntax). picked ts sight) (next-trees loaded p t)
       ∙ picked-are files.trees with_p sight agrees-p
@@ -465,25 +573,22 @@ module _ (files : Files) (loaded : List LoadedEntry) (tables : Tables) (log : Li
   others_over = others_by (picked (with_next loaded t) sight)
       (customs_over descriptors reach sight) t
 
-  over-is : faults_over (with_next loaded t) descriptors reach sight t
-      ≡ before_others linked others_over
-  over-is = ap (λ (fs : List elaborating.Fault). before_others fs others_over) linked-is
-
   others-same : linked ≡ [] → others_over ≡ others files p t
   others-same h =
       ap (λ (env : Environment). before_others (file_faults env t)
       (told_by (customs_over descriptors reach sight) t)) (same-types h no_customs)
       ∙ ap (λ (c : Customs). others_by (trees_at files.trees (files.seen p)) c t) (same-customs h)
 
-  pub over-linked : faults_over (with_next loaded t) descriptors reach sight t ≡ [] → linked ≡ []
-  over-linked h = none-before linked others_over (sym over-is ∙ h)
+  pub over-linked : faults_over loaded (with_next loaded t) descriptors reach sight t ≡ []
+      → linked ≡ []
+  over-linked h = repeats-none (none-before repeats others_over h)
 
-  pub over-faultless : faults_over (with_next loaded t) descriptors reach sight t ≡ []
+  pub over-faultless : faults_over loaded (with_next loaded t) descriptors reach sight t ≡ []
       → faults_at files p (Some t) ≡ []
   over-faultless h =
-      let first = over-linked h in
-      no-others linked_in (others files p t) (link-again first)
-      (sym (others-same first) ∙ none-after linked others_over (sym over-is ∙ h))
+      let first = none-before repeats others_over h in
+      no-others repeats_in (others files p t) (repeats-again first)
+      (sym (others-same (repeats-none first)) ∙ none-after repeats others_over h)
 
   pub over-descriptor : linked ≡ []
       → file_over (with_next loaded t) descriptors reach sight p t
@@ -501,14 +606,15 @@ module _ (files : Files) (loaded : List LoadedEntry) (tables : Tables) (log : Li
   -- ** where faults are gathered
 
   pub ending-linked : (gathers : Bool)
-      → ending_over gathers (with_next loaded t) descriptors reach sight t ≡ [] → linked ≡ []
-  ending-linked true h = sym linked-is ∙ h
+      → ending_over gathers loaded (with_next loaded t) descriptors reach sight t ≡ []
+      → linked ≡ []
+  ending-linked true h = repeats-none h
   ending-linked false h = over-linked h
 
   pub ending-faultless : (gathers : Bool)
-      → ending_over gathers (with_next loaded t) descriptors reach sight t ≡ []
+      → ending_over gathers loaded (with_next loaded t) descriptors reach sight t ≡ []
       → ending_faults gathers files p (Some t) ≡ []
-  ending-faultless true h = link-again (sym linked-is ∙ h)
+  ending-faultless true h = repeats-again h
   ending-faultless false h = over-faultless h
 
   pub own-same : linked ≡ [] → own_over (with_next loaded t) sight t ≡ own_faults files p (Some t)
@@ -587,25 +693,20 @@ module _ (files : Files) (loaded : List LoadedEntry) (tables : Tables) (log : Li
       (if list_any (is_faulty files) (files.reached p) then [] else fs)) (customs-told-same h)
 
   pub over-told : (f : elaborating.Fault)
-      → Among (faults_over (with_next loaded t) descriptors reach sight t) f
+      → Among (faults_over loaded (with_next loaded t) descriptors reach sight t) f
       → Among (faults_at files p (Some t)) f
   over-told f m =
-      elim (which-told linked others_over f
-      (subst (λ (fs : List elaborating.Fault). Among fs f) over-is m)) [
-        | inl w ↦ told-before linked_in (others files p t) f
-            (link-told files.trees rs (files.reached p) f reached-by.once
-            (n.listed.reaches p).once same-reach w)
-        | inr w ↦ told-after linked_in (others files p t) f (link-again w.0)
-            (subst (λ (fs : List elaborating.Fault). Among fs f) (others-same w.0) w.1)
+      elim (which-told repeats others_over f m) [
+        | inl w ↦ told-before repeats_in (others files p t) f (repeats-told f w)
+        | inr w ↦ told-after repeats_in (others files p t) f (repeats-again w.0)
+            (subst (λ (fs : List elaborating.Fault). Among fs f)
+            (others-same (repeats-none w.0)) w.1)
       ]
 
   pub ending-told : (gathers : Bool) (f : elaborating.Fault)
-      → Among (ending_over gathers (with_next loaded t) descriptors reach sight t) f
+      → Among (ending_over gathers loaded (with_next loaded t) descriptors reach sight t) f
       → Among (ending_faults gathers files p (Some t)) f
-  ending-told true f m =
-      link-told files.trees rs (files.reached p) f reached-by.once
-      (n.listed.reaches p).once same-reach
-      (subst (λ (fs : List elaborating.Fault). Among fs f) linked-is m)
+  ending-told true f m = repeats-told f m
   ending-told false f m = over-told f m
 
 -- a fault of elaboration stands wherever its fault does
@@ -662,7 +763,8 @@ settled-in gathers files loaded new tables after p t height read below public lo
     elim (over e found named) [
       | inl w ↦
           inl (stands-more (origin_given p (Some e.outcome))
-          (ending_over gathers (with_next loaded t) (descriptors_next loaded w.1 p t) w.0 w.1 t)
+          (ending_over gathers loaded (with_next loaded t) (descriptors_next loaded w.1 p t) w.0 w.1
+          t)
           (ending_faults gathers files p (Some t)) f
           (λ g m. ending-told files loaded tables log p t below n w.0 w.1 w.2 w.3 gathers g m) w.4)
       | inr w ↦ inr w

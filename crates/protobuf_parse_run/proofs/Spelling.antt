@@ -13,7 +13,7 @@ use Rattle.protobuf_parse_model.specs.Descriptors.{Text, FileDescriptor}
 use Rattle.protobuf_parse_model.specs.Environment.{Customs, no_customs}
 use Rattle.protobuf_parse_model.specs.Descriptors as described
 use Rattle.protobuf_parse_model.specs.Faults.{Among, here, there, Blames, Fault, fault_view, found}
-use Rattle.protobuf_parse_model.specs.Linking.{before_others, link_faults}
+use Rattle.protobuf_parse_model.specs.Linking.{before_others}
 use Rattle.protobuf_parse_model.specs.Tables.{picked}
 use Rattle.protobuf_parse_model.specs.declared.descriptor.FileDescriptorProto.{FileDescriptorProto}
 use Rattle.protobuf_parse_model.specs.declared.error.ElabError.{ElabError}
@@ -38,7 +38,7 @@ use Rattle.protobuf_parse_options.specs.WithoutOptions.{bare_file}
 use Rattle.protobuf_parse_options.proofs.BareFiles.{file-alike}
 use Rattle.protobuf_parse_run.specs.Loading.{Describes, LoadedEntry, customs_over}
 use Rattle.protobuf_parse_run.specs.Loading.{any_faulty, own_over, plain_over, report_over}
-use Rattle.protobuf_parse_run.specs.Loading.{descriptors_over, picked_descriptors}
+use Rattle.protobuf_parse_run.specs.Loading.{descriptors_over, picked_descriptors, repeats_over}
 use Rattle.protobuf_parse_run.specs.Run.{Files, customs_of, is_nothing}
 
 -- ** the faults of a file but those of names that are declared twice
@@ -203,7 +203,7 @@ module _ (files : List FileSyntax) (descriptors : List FileDescriptor) (reach si
 -- ** what a file becomes by numbers
 
 module _ (loaded : List LoadedEntry) (files : List FileSyntax) (reach sight : List ℕ) (path : Text)
-    (t : FileSyntax) (linked : link_faults (picked files reach) ≡ []) where
+    (t : FileSyntax) (once : repeats_over loaded files reach t ≡ []) where
   abbrev descriptors : List FileDescriptor
   descriptors = descriptors_over loaded files sight path t
 
@@ -218,10 +218,10 @@ module _ (loaded : List LoadedEntry) (files : List FileSyntax) (reach sight : Li
 
   all-faultless : file_faults (environment seen no_customs t) t ≡ []
       → custom_option_faults reached_descriptors seen_descriptors t ≡ []
-      → before_others (link_faults (picked files reach))
+      → before_others (repeats_over loaded files reach t)
       (before_others (file_faults (environment seen no_customs t) t)
       (custom_option_faults reached_descriptors seen_descriptors t)) ≡ []
-  all-faultless own options = rw (linked, own) options
+  all-faultless own options = rw (once, own) options
 
   -- where nothing is wrong nothing is told
   nothing-told : (faulty : Bool) → own_over files sight t ≡ []
@@ -272,7 +272,7 @@ module _ (loaded : List LoadedEntry) (files : List FileSyntax) (reach sight : Li
       → Describes false loaded files reach sight path t (Err e)
   own-told (failure.Memory) h = tt
   own-told (failure.Fault error) h =
-      rw linked (told-first (file_faults (environment seen no_customs t) t)
+      rw once (told-first (file_faults (environment seen no_customs t) t)
       (custom_option_faults reached_descriptors seen_descriptors t) (fault_view error) h)
     where
       told-first : (firsts others : List Fault) (f : Fault) → Among firsts f
@@ -287,7 +287,7 @@ module _ (loaded : List LoadedEntry) (files : List FileSyntax) (reach sight : Li
       → Describes false loaded files reach sight path t (Err e)
   customs-told c (failure.Memory) same own h = tt
   customs-told c (failure.Fault error) same own h =
-      rw (linked, own) (option-told seen reached_descriptors seen_descriptors t (fault_view error)
+      rw (once, own) (option-told seen reached_descriptors seen_descriptors t (fault_view error)
       own
       (subst (λ (k : Customs). Among (file_faults (environment seen k t) t) (fault_view error))
       same h))

@@ -1,4 +1,5 @@
 pub mod Walks
+pub mod Repeats
 pub mod Run
 pub mod Loading
 pub mod Checks

@@ -4,12 +4,13 @@
 use Rattle.std.specs.Prelude.{◌≡◌, ◌⊎◌, ◌≤◌, ℕ, Bool, true, false, not, nat_lt, List, [], ◌∷◌, ◌++◌}
 use Rattle.std.specs.Prelude.{length, ◌||◌, if◌then◌else◌, map, flat_map, Option, Some, None}
 use Rattle.std.specs.Prelude.{option_to_list, Result, Ok, Err, bytes_eq, String, string_bytes}
-use Rattle.std.specs.Prelude.{slice_get, find}
+use Rattle.std.specs.Prelude.{slice_get, find, filter, nat_eq}
 use Rattle.std.specs.Global.{Global}
 use Rattle.std.specs.List.{AllByRecursion, Contains, list_any}
 use Rattle.std.specs.List.Sorted.{IsStrictlyIncreasing}
 use Rattle.std.specs.Map.{lookup}
 use Rattle.protobuf_parse_base.specs.PathViews.{path_buf_text}
+use Rattle.protobuf_parse_lexer.specs.declared.lexer.token.Place.{Place}
 use Rattle.protobuf_parse_syntax.specs.Trees.{FileSyntax, file_syntax}
 use Rattle.protobuf_parse_syntax.specs.declared.tree.FileTree.{FileTree}
 use Rattle.protobuf_parse_model.specs.Descriptors as described
@@ -19,7 +20,7 @@ use Rattle.protobuf_parse_model.specs.Tables.{TableTells, picked}
 use Rattle.protobuf_parse_model.specs.declared.descriptor.FileDescriptorProto.{FileDescriptorProto}
 use Rattle.protobuf_parse_model.specs.Faults as elaborating
 use Rattle.protobuf_parse_model.specs.Faults.{Blames, fault_view, found}
-use Rattle.protobuf_parse_model.specs.Linking.{before_others, link_faults}
+use Rattle.protobuf_parse_model.specs.Linking.{before_others, declares_name, link_faults}
 use Rattle.protobuf_parse_model.specs.declared.error.ElabFailure.{ElabFailure}
 use Rattle.protobuf_parse_elaboration.specs.FileDescriptor.{environment, file_faults, file_of}
 use Rattle.protobuf_parse_elaboration.specs.FilesByPath.{AreDistinct}
@@ -54,6 +55,7 @@ use Rattle.protobuf_parse_run.specs.Run.{plain_of, first_read, fault_said, text_
 use Rattle.protobuf_parse_run.specs.Run.{AreAnswered, Legal, StandsThere, StandsInLoad}
 use Rattle.protobuf_parse_run.specs.Run.{StandsInElab, IsUnparsed, ending_faults, ends, is_faulty}
 use Rattle.protobuf_parse_run.specs.Run.{is_nothing, own_faults, report_at}
+use Rattle.protobuf_parse_run.specs.Repeats.{repeat_place, told_at}
 
 -- the answers that may be given by those whom a run asks: its resolver, which may answer so, and
 -- its reader, which may so
@@ -165,6 +167,11 @@ pub record AreKnown (loaded : List LoadedEntry) (tables : Tables)
   pub read : (p : Text) (file : LoadedFile) → file_at p loaded ≡ Some file
       → among p (read_paths log) ≡ true
 
+-- the numbers that a loaded file reaches
+abbrev pub reach_in : Option LoadedFile → List ℕ
+reach_in None = []
+reach_in (Some file) = file.reach.items
+
 abbrev pub held_at : Held → Option LoadedEntry → List ℕ
 held_at which None = []
 held_at which (Some e) = held which e.1
@@ -196,12 +203,33 @@ abbrev pub descriptors_over : List LoadedEntry → List FileSyntax → List ℕ 
     → List FileDescriptor
 descriptors_over loaded files sight path t = descriptors_with loaded (plain_over files sight path t)
 
+-- the loaded file of the path reaches the file with this number
+abbrev pub reaches_number : List LoadedEntry → Text → ℕ → Bool
+reaches_number loaded path n = list_any (λ (m : ℕ). nat_eq m n) (reach_in (file_at path loaded))
+
+-- those of the numbers whose files declare the name
+abbrev pub declaring_numbers : List FileSyntax → Bool → Text → List ℕ → List ℕ
+declaring_numbers files extension name numbers =
+    filter (λ (n : ℕ). declares_name extension name (slice_get files n)) numbers
+
+abbrev pub repeat_place_over : List LoadedEntry → List FileSyntax → List ℕ → FileSyntax → Bool
+    → Text → Place
+repeat_place_over loaded files reach t extension name =
+    repeat_place (reaches_number loaded) (declaring_numbers files extension name reach) t extension
+    name
+
+-- E5 and E6 of a file, over the files with the numbers that it reaches
+abbrev pub repeats_over : List LoadedEntry → List FileSyntax → List ℕ → FileSyntax
+    → List elaborating.Fault
+repeats_over loaded files reach t =
+    map (told_at (repeat_place_over loaded files reach t)) (link_faults (picked files reach))
+
 -- the faults of a file, and what it becomes, over the files with the numbers that it reaches and
 -- sees
-abbrev pub faults_over : List FileSyntax → List FileDescriptor → List ℕ → List ℕ → FileSyntax
-    → List elaborating.Fault
-faults_over files descriptors reach sight t =
-    elaboration_faults (picked files reach) (picked files sight)
+abbrev pub faults_over : List LoadedEntry → List FileSyntax → List FileDescriptor → List ℕ
+    → List ℕ → FileSyntax → List elaborating.Fault
+faults_over loaded files descriptors reach sight t =
+    elaboration_faults (repeats_over loaded files reach t) (picked files sight)
     (picked_descriptors descriptors reach) (picked_descriptors descriptors sight) t
 
 abbrev pub customs_over : List FileDescriptor → List ℕ → List ℕ → Customs
@@ -213,10 +241,11 @@ abbrev pub own_over : List FileSyntax → List ℕ → FileSyntax → List elabo
 own_over files sight t = file_faults (environment (picked files sight) no_customs t) t
 
 -- those that end a run, or a check
-abbrev pub ending_over : Bool → List FileSyntax → List FileDescriptor → List ℕ → List ℕ
-    → FileSyntax → List elaborating.Fault
-ending_over true files descriptors reach sight t = link_faults (picked files reach)
-ending_over false files descriptors reach sight t = faults_over files descriptors reach sight t
+abbrev pub ending_over : Bool → List LoadedEntry → List FileSyntax → List FileDescriptor → List ℕ
+    → List ℕ → FileSyntax → List elaborating.Fault
+ending_over true loaded files descriptors reach sight t = repeats_over loaded files reach t
+ending_over false loaded files descriptors reach sight t =
+    faults_over loaded files descriptors reach sight t
 
 -- what a check tells, where it is known whether a file that it reaches has faults of its own
 abbrev pub report_over : List FileSyntax → List FileDescriptor → List ℕ → List ℕ → Bool
@@ -251,7 +280,7 @@ any_faulty loaded numbers own =
 -- What a file becomes by these numbers: but for options, what it becomes without its custom ones.
 pub record IsDescribed (gathers : Bool) (loaded : List LoadedEntry) (files : List FileSyntax)
     (reach sight : List ℕ) (path : Text) (t : FileSyntax) (d : Described) : Type 0 where
-  pub faultless : ending_over gathers files (descriptors_over loaded files sight path t)
+  pub faultless : ending_over gathers loaded files (descriptors_over loaded files sight path t)
       reach sight t ≡ []
   pub descriptor : gathers ≡ false → described.file_view d.descriptor
       ≡ file_over files (descriptors_over loaded files sight path t) reach sight path t
@@ -268,7 +297,7 @@ Describes gathers loaded files reach sight path t (Ok d) =
     IsDescribed gathers loaded files reach sight path t d
 Describes gathers loaded files reach sight path t (Err e) =
     Blames e
-    (ending_over gathers files (descriptors_over loaded files sight path t) reach sight t)
+    (ending_over gathers loaded files (descriptors_over loaded files sight path t) reach sight t)
 
 -- these are more files than were loaded
 abbrev pub MoreLoaded : List LoadedEntry → List LoadedEntry → Type 0
@@ -526,7 +555,7 @@ pub record IsAddedOver (gathers : Bool) (path : Text) (tree : FileSyntax) (heigh
   pub reaches : AreJoined held_as.Reach old imports file.reach.items
   pub sees : AreJoined held_as.HandedOn old imports sight
   pub hands_on : AreJoined held_as.HandedOn old public file.handed_on.items
-  pub faultless : ending_over gathers (with_next old tree)
+  pub faultless : ending_over gathers old (with_next old tree)
       (descriptors_next old sight path tree) file.reach.items sight tree ≡ []
   pub descriptor : gathers ≡ false → described.file_view file.descriptor
       ≡ file_over (with_next old tree)
@@ -550,7 +579,7 @@ IsRefusedOver gathers origin path tree imports old f =
     OrMemory f ((reach : List ℕ) × (sight : List ℕ) × AreJoined held_as.Reach old imports reach
     × AreJoined held_as.HandedOn old imports sight
     × StandsInElab origin
-    (ending_over gathers (with_next old tree)
+    (ending_over gathers old (with_next old tree)
     (descriptors_next old sight path tree) reach sight tree) f)
 
 abbrev pub SettlesOver : Bool → Text → FileSyntax → ℕ → ℕ → List ℕ → List ℕ → List ReadEntry

@@ -19,7 +19,7 @@ use Rattle.protobuf_parse_model.specs.Faults as elaborating
 use Rattle.protobuf_parse_model.specs.Faults.{Among, fault_view}
 use Rattle.protobuf_parse_model.specs.declared.descriptor.FileDescriptorProto.{FileDescriptorProto}
 use Rattle.protobuf_parse_model.specs.Environment.{no_customs}
-use Rattle.protobuf_parse_model.specs.Linking.{before_others, link_faults}
+use Rattle.protobuf_parse_model.specs.Linking.{before_others}
 use Rattle.protobuf_parse_elaboration.specs.FileDescriptor.{environment, file_faults, file_of}
 use Rattle.protobuf_parse_elaboration.specs.FilesByPath.{AreDistinct, AreJust, trees_at}
 use Rattle.protobuf_parse_options.specs.CustomFaults.{elaboration_faults}
@@ -39,6 +39,8 @@ use Rattle.protobuf_parse_run.specs.declared.log.RunInput.TheVariants as given
 use Rattle.protobuf_parse_run.specs.declared.log.ReadEntry.{ReadEntry}
 use Rattle.protobuf_parse_run.specs.declared.log.ReadOutcome.{ReadOutcome}
 use Rattle.protobuf_parse_run.specs.declared.log.ReadOutcome.TheVariants as outcome
+pub use Rattle.protobuf_parse_run.specs.Repeats.{is_nothing}
+use Rattle.protobuf_parse_run.specs.Repeats.{repeat_faults}
 use Rattle.protobuf_parse_run.specs.Walks.{Input, named, at, Asked, the_resolver, the_reader, Event}
 use Rattle.protobuf_parse_run.specs.Walks.{cycle, long, load, check, elab, Trees, Reaches, Sees}
 use Rattle.protobuf_parse_run.specs.Walks.{FileRead}
@@ -138,10 +140,6 @@ HaveLists bundled log = (trees : Trees) → HasTrees bundled log trees
 
 -- ---- which event fails
 
-abbrev pub is_nothing : {A : Type 0} → List A → Bool
-is_nothing [] = true
-is_nothing (x ∷ xs) = false
-
 abbrev pub are_same_bytes : Option Text → Option Text → Bool
 are_same_bytes (Some a) (Some b) = bytes_eq a b
 are_same_bytes _ _ = false
@@ -173,7 +171,7 @@ environment_of files p t =
 -- else its own, or else those of its custom options
 abbrev pub faults_at : Files → Text → Option FileSyntax → List elaborating.Fault
 faults_at files p (Some t) =
-    elaboration_faults (trees_at files.trees (files.reached p))
+    elaboration_faults (repeat_faults files.trees files.reached p t)
     (trees_at files.trees (files.seen p))
     (plains_at files (files.reached p)) (plains_at files (files.seen p)) t
 faults_at files p None = []
@@ -202,7 +200,7 @@ content_at files n = text_given [] [] (answer_at files n)
 -- the faults of a file that end a run; or, where this is true, a check, which goes on behind a file
 -- with faults, but where names are declared twice
 abbrev pub ending_faults : Bool → Files → Text → Option FileSyntax → List elaborating.Fault
-ending_faults true files p (Some t) = link_faults (trees_at files.trees (files.reached p))
+ending_faults true files p (Some t) = repeat_faults files.trees files.reached p t
 ending_faults true files p None = []
 ending_faults false files p t = faults_at files p t
 

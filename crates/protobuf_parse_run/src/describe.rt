@@ -8,22 +8,21 @@ ghost use Rattle.protobuf_parse_syntax.specs.Counts.{statements_in};
 ghost use Rattle.protobuf_parse_syntax.specs.Trees.{FileSyntax, file_syntax};
 ghost use Rattle.protobuf_parse_model.specs.Descriptors as described;
 ghost use Rattle.protobuf_parse_model.specs.Faults.{Elaborates, found};
-ghost use Rattle.protobuf_parse_model.specs.Linking.{link_faults};
 ghost use Rattle.protobuf_parse_model.specs.Tables.{TableTells, picked};
 ghost use Rattle.protobuf_parse_elaboration.specs.FileDescriptor.{environment, file_faults};
 ghost use Rattle.protobuf_parse_elaboration.specs.FileDescriptor.{file_of};
 ghost use Rattle.protobuf_parse_options.specs.Holding.{Holds};
 ghost use Rattle.protobuf_parse_run.specs.Loading.{IndexBegins, Describes, customs_over};
 ghost use Rattle.protobuf_parse_run.specs.Loading.{descriptor_in, has_faults, own_over};
+ghost use Rattle.protobuf_parse_run.specs.Loading.{repeats_over};
 ghost use Rattle.protobuf_parse_run.specs.Loading.{report_over, descriptor_seen, descriptors_with};
 
 use crate::loaded::LoadedFiles;
 use crate::reach::Sights;
+use crate::repeats::link_at_places;
 use crate::tables::{RunSpots, Tables, add_next};
 use protobuf_parse_elaboration::{elaborate, elaborate_all, elaborate_all_owned, elaborate_owned};
-use protobuf_parse_model::{
-    ElabError, ElabFailure, FileDescriptorProto, Seen, WithoutCustoms, link,
-};
+use protobuf_parse_model::{ElabError, ElabFailure, FileDescriptorProto, Seen, WithoutCustoms};
 use protobuf_parse_options::{KnownFiles, PickedFiles, Spots, has_custom_option};
 use protobuf_parse_syntax::FileTree;
 use std::alloc::{AllocError, Global};
@@ -54,8 +53,8 @@ pub fn elaborated(
     requires begins { IndexBegins tables.old.spots (map descriptor_in loaded.now.entries) }
     ensures names { tables.new.names ≡ tables.old.names }
     ensures describes { (files : List FileSyntax) → TableTells tables.old.names files
-        → Describes false loaded.now.entries files sights.now.reach.items sights.now.sight.items path.now
-        (file_syntax tree) result }
+        → Describes false loaded.now.entries files sights.now.reach.items sights.now.sight.items
+        path.now (file_syntax tree) result }
     ensures begins { (files : List FileSyntax) → TableTells tables.old.names files
         → IfOk result (λ d. IndexBegins tables.new.spots
         (descriptors_with loaded.now.entries (described.file_view d.descriptor))) }
@@ -65,7 +64,7 @@ pub fn elaborated(
         sight: &sights.sight,
         reach: &sights.reach,
     };
-    link(alloc, &seen)?;
+    link_at_places(alloc, loaded, &seen, &tree)?;
     if has_custom_option(&tree) {
         with_customs(alloc, loaded, &mut tables.spots, &seen, path, tree)
     } else {
@@ -104,7 +103,7 @@ pub fn checked(
         sight: &sights.sight,
         reach: &sights.reach,
     };
-    link(alloc, &seen)?;
+    link_at_places(alloc, loaded, &seen, &tree)?;
     let mut faults = Vec::new(alloc);
     let plain = elaborate_all(alloc, &mut faults, path, &tree, &seen, &WithoutCustoms)?;
     let faulty = !faults.is_empty();
@@ -232,7 +231,7 @@ fn with_customs(
     requires few { statements_in (file_syntax tree) ≤ 2147483647 }
     requires begins { IndexBegins spots.old (map descriptor_in loaded.now.entries) }
     ensures describes { (files : List FileSyntax) → TableTells seen.now.declarations.now files
-        → link_faults (picked files seen.now.reach.now) ≡ []
+        → repeats_over loaded.now.entries files seen.now.reach.now (file_syntax tree) ≡ []
         → Describes false loaded.now.entries files seen.now.reach.now seen.now.sight.now path.now
         (file_syntax tree) result }
     ensures begins { (files : List FileSyntax) → TableTells seen.now.declarations.now files

@@ -12,6 +12,7 @@ mod loaded;
 mod loader;
 mod log;
 mod reach;
+mod repeats;
 mod run;
 mod source;
 mod tables;

@@ -663,7 +663,7 @@ fn descriptor_of(
         IfErr result (λ f. (e : ReadEntry) → slice_get loader.old.reads.items read ≡ Some e
         → path_buf_text e.path ≡ path.now
         → OrMemory f (StandsInElab (origin_given path.now (Some e.outcome))
-        (ending_over gathers files
+        (ending_over gathers loader.old.loaded.entries files
         (descriptors_over loader.old.loaded.entries files sights.now.sight.items path.now t)
         sights.now.reach.items sights.now.sight.items t) f)) }
     ensures begins { (files : List FileSyntax) → TableTells loader.old.tables.names files

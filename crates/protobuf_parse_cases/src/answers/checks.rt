@@ -6,7 +6,7 @@ use crate::cases::Case;
 use crate::files::Files;
 use crate::notation::text_of;
 use anyhow::Result;
-use protobuf_parse::{CheckLog, FileReport, check_inputs};
+use protobuf_parse::{CheckLog, FileReport, RunFault, check_inputs};
 use std::alloc::{AllocError, Global};
 
 /// What a check over the inputs did.
@@ -26,13 +26,24 @@ fn told(alloc: Global, log: &CheckLog) -> Result<String, AllocError> {
     let mut text = String::new(alloc);
     match &log.result {
         Ok(reports) => put_reports(&mut text, reports)?,
-        Err(fault) => write!(&mut text, "{fault}")?,
+        Err(fault) => put_end(&mut text, fault)?,
     }
     if !text.is_empty() {
         text.push(' ')?;
     }
     put_reads(&mut text, &log.reads, log.meets)?;
     Ok(text)
+}
+
+/// What ended a check, a fault of meaning with its place.
+fn put_end(text: &mut String, fault: &RunFault) -> Result<(), AllocError> {
+    match fault {
+        RunFault::Elaborate(file, error) => {
+            write!(text, "error in `{file}`: ")?;
+            put_fault(text, error)
+        }
+        other => write!(text, "{other}"),
+    }
 }
 
 /// The reports, `; ` between them: `a ok; b 1:9 E3 NotFoundByRelPath: X, 2:1 E1 DuplicateName: y`.

@@ -1,11 +1,9 @@
 //! What the files of a run tell of a name.
 
-use crate::imports::reached_further;
 use crate::kinds::values_of_type;
 use crate::meaning::known::{Found, Sight};
 use crate::meaning::meaning_code;
 use crate::outline::{Declared, DeclaredKind};
-use crate::sources::{Trees, imports_in};
 use protobuf_parse_model::{ElabError, ElabErrorKind};
 use protobuf_parse_syntax::{Place, Type};
 use std::alloc::{AllocError, Global};
@@ -193,45 +191,4 @@ fn push_site(text: &mut String, origin: &str, place: Place) -> Result<(), AllocE
     })?;
     let Place { line, col } = place;
     write!(text, "{origin}:{line}:{col}")
-}
-
-/// Where the file imports what has the second declaration of the full name that the fault speaks
-/// of, in the order of its imports.
-pub fn import_of_second(
-    alloc: Global,
-    trees: &Trees<'_>,
-    sight: &Sight<'_, '_, '_, '_>,
-    error: &ElabError,
-) -> Result<Option<Place>, AllocError> {
-    let Some(file) = trees.files.get(sight.at) else {
-        return Ok(None);
-    };
-    let mut met = vec![in alloc; false; trees.files.len()]?;
-    let mut declarations: usize = 0;
-    for import in imports_in(alloc, &file.tree)? {
-        let Some(next) = trees.position(import.path.as_path().to_str()) else {
-            continue;
-        };
-        for at in reached_further(alloc, trees, &mut met, next)? {
-            declarations = declarations.saturating_add(declarations_in(sight, at, error));
-        }
-        if declarations > 1 {
-            return Ok(Some(import.place));
-        }
-    }
-    Ok(None)
-}
-
-/// How often the file at that position declares the full name that the fault speaks of.
-fn declarations_in(sight: &Sight<'_, '_, '_, '_>, at: usize, error: &ElabError) -> usize {
-    let Some(all) = sight.known.of_last_part(&error.what) else {
-        return 0;
-    };
-    let mut declarations: usize = 0;
-    for found in all {
-        if found.file == at && is_spoken_of(found.declared, error) {
-            declarations = declarations.saturating_add(1);
-        }
-    }
-    declarations
 }

@@ -1,11 +1,13 @@
-use Rattle.std.proofs.Common.{◌≡◌, ◌∙◌, ◌++◌, [], ◌∷◌, ap, sym, filter, take}
-use Rattle.std.proofs.lemmas.List.{take_more}
-use Rattle.protobuf_parse_model.proofs.Declaring.{is_there, there-are}
+use Rattle.std.proofs.Common.{◌∙◌, ap, arith, filter}
+use Rattle.std.proofs.lemmas.List.{take_all}
+use Rattle.protobuf_parse_model.proofs.DeclaringFiles.{is_there, there-are}
 use Rattle.protobuf_parse_model.proofs.declaring.declaring_files.Goals as goal
-use Rattle.protobuf_parse_model.proofs.declaring.declaring_files.Goals.{else-branch, then-branch}
 
 pub returns : goal.returns
 returns c = λ files tells.
+    let reach = c.args.seen.now.reach.now in
+    let table = c.args.seen.now.declarations.now in
     c.loop-file.invariant
-    ∙ there-are c.args.extension c.args.seen.now.declarations.now files tells c.args.name.now
-    c.args.seen.now.reach.now
+    ∙ ap (filter (is_there c.args.extension table c.args.name.now))
+    (take_all c.loop-file.file-index reach (omega (arith, c.loop-file-test.false)))
+    ∙ there-are c.args.extension table files tells c.args.name.now reach

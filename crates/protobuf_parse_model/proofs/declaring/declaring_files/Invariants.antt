@@ -1,5 +1,5 @@
 use Rattle.std.proofs.Common.{◌≡◌, ℕ, filter, take}
-use Rattle.protobuf_parse_model.proofs.Declaring.{is_there}
+use Rattle.protobuf_parse_model.proofs.DeclaringFiles.{is_there}
 use Rattle.protobuf_parse_model.proofs.declaring.declaring_files.Given as goal
 
 abbrev pub invariant-loop-file : goal.invariant-loop-file

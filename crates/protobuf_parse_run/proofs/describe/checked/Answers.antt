@@ -4,11 +4,9 @@ use Rattle.protobuf_parse_syntax.specs.Trees.{file_syntax}
 use Rattle.protobuf_parse_model.specs.declared.error.ElabError.{ElabError}
 use Rattle.protobuf_parse_model.specs.Descriptors.{FileDescriptor}
 use Rattle.protobuf_parse_model.specs.Faults.{fault_view, found}
-use Rattle.protobuf_parse_model.specs.Linking.{link_faults}
-use Rattle.protobuf_parse_model.specs.Tables.{picked}
 use Rattle.protobuf_parse_options.specs.WithoutOptions.{bare_file}
 use Rattle.protobuf_parse_run.specs.Loading.{has_faults, own_over, descriptors_over}
-use Rattle.protobuf_parse_run.specs.Loading.{descriptors_with, report_over}
+use Rattle.protobuf_parse_run.specs.Loading.{descriptors_with, report_over, repeats_over}
 use Rattle.protobuf_parse_run.specs.Run.{is_nothing}
 use Rattle.protobuf_parse_run.proofs.Spelling.{nothing-is, report-same}
 use Rattle.protobuf_parse_run.proofs.describe.checked.Goals as goal
@@ -21,8 +19,8 @@ returns-clause-describes c files told =
     let sight = c.args.sights.now.sight.items in
     let descriptors = descriptors_over loaded files sight c.args.path.now t in
     let below = list_any (λ (n : ℕ). has_faults (slice_get loaded n)) reach in
-    let linked : link_faults (picked files reach)
-    ≡ [] = ((rw c.deref-2.ensures.value at c.in_ok-link.ensures) files told).0 in
+    let once : repeats_over loaded files reach t
+    ≡ [] = ((rw c.deref-2.ensures.value at c.in_ok-link_at_places.ensures) files told).0 in
     let value = (rw c.deref.ensures.value at c.in_ok-plain.ensures.value) files told in
     let added = (rw c.deref.ensures.value at c.in_ok-plain.ensures.faults) files told in
     let own : found c.elaborate_all.new.faults ≡ own_over files sight t = added
@@ -34,7 +32,7 @@ returns-clause-describes c files told =
     let further = (rw (c.deref.ensures.value, c.deref-2.ensures.value)
     at c.in_ok-tell_further.ensures.told) files told own in
     record {
-      faultless = linked;
+      faultless = once;
       descriptor = λ runs. cc;
       alike = ap bare_file value;
       faulty = faulty;

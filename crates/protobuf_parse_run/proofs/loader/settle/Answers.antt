@@ -83,7 +83,7 @@ returns-in_err-described-clause-settles c told =
       | inl w ↦
           let stands = subst
           (λ (z : Text). StandsInElab (origin_given z (Some e.outcome))
-          (ending_over c.args.gathers (with_next loaded t)
+          (ending_over c.args.gathers loaded (with_next loaded t)
           (descriptors_next loaded sights.sight.items z t) sights.reach.items sights.sight.items t)
           c.in_err-described.field-0.0) c.deref.ensures w in
           inl (
