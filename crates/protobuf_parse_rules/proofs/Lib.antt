@@ -11,6 +11,7 @@ pub mod Declaring
 pub mod Walking
 pub mod Counting
 pub mod Plain
+pub mod Spelling
 pub mod Keyed
 pub mod Lone
 pub mod Crowding

@@ -16,12 +16,12 @@ use Rattle.protobuf_parse_rules.specs.Keys.{mixed, plain_mixed}
 abbrev pub letters : List ℕ → List ℕ
 letters bs = lower (filter is_letter bs)
 
-letters-letter : (b : ℕ) (bs : List ℕ) → (b == 95) ≡ false
+pub letters-letter : (b : ℕ) (bs : List ℕ) → (b == 95) ≡ false
     → letters (b ∷ bs) ≡ to_ascii_lowercase b ∷ letters bs
 letters-letter b bs h =
     ap (λ (t : Bool). lower (if not t then b ∷ filter is_letter bs else filter is_letter bs)) h
 
-letters-underscore : (b : ℕ) (bs : List ℕ) → (b == 95) ≡ true → letters (b ∷ bs) ≡ letters bs
+pub letters-underscore : (b : ℕ) (bs : List ℕ) → (b == 95) ≡ true → letters (b ∷ bs) ≡ letters bs
 letters-underscore b bs h =
     ap (λ (t : Bool). lower (if not t then b ∷ filter is_letter bs else filter is_letter bs)) h
 
@@ -53,7 +53,7 @@ encode-beyond c k h l =
           absurd (omega arith)
     ]
 
-letters-encodes : (cs : List ℕ) → letters (encode_utf8_all cs) ≡ encode_utf8_all (letters cs)
+pub letters-encodes : (cs : List ℕ) → letters (encode_utf8_all cs) ≡ encode_utf8_all (letters cs)
 letters-encodes [] = refl
 letters-encodes (c ∷ cs) =
     elim (cases_lt c 128) [
@@ -81,7 +81,7 @@ letters-text name utf8 =
 
 -- ---- their key
 
-folded : (bs : List ℕ) (key : ℕ) → fold plain_mixed key bs ≡ fold mixed key (letters bs)
+pub folded : (bs : List ℕ) (key : ℕ) → fold plain_mixed key bs ≡ fold mixed key (letters bs)
 folded [] key = refl
 folded (b ∷ bs) key =
     elim (cases_Bool (b == 95)) [

@@ -2,6 +2,7 @@
 -- Numbers by which things are told apart quickly.
 use Rattle.std.specs.Prelude.{ℕ, ℤ, ◌*◌, ◌%◌, ◌^◌, ◌==◌, Bool, true, false, not, if◌then◌else◌}
 use Rattle.std.specs.Prelude.{List, [], ◌∷◌, ◌++◌, map, flat_map, option_to_list, bit_xor}
+use Rattle.std.specs.Prelude.{encode_utf8_all}
 use Rattle.std.specs.Char.{to_ascii_lowercase}
 use Rattle.std.specs.List.{fold}
 use Rattle.std.specs.Hash as fed
@@ -10,6 +11,7 @@ use Rattle.protobuf_parse_base.specs.Characters as char
 use Rattle.protobuf_parse_model.specs.Descriptors.{Text, EnumDescriptor, EnumValueDescriptor}
 use Rattle.protobuf_parse_model.specs.Descriptors.{FieldDescriptor, MethodDescriptor}
 use Rattle.protobuf_parse_model.specs.Descriptors.{OneofDescriptor, ServiceDescriptor}
+use Rattle.protobuf_parse_rules.specs.Alike.{plain}
 use Rattle.protobuf_parse_rules.specs.Claims.{Claim, Thing}
 use Rattle.protobuf_parse_rules.specs.Names.{Named, package_named}
 use Rattle.protobuf_parse_rules.specs.Places.{Content, Place, enums_of, extensions_of, of_file}
@@ -50,6 +52,12 @@ text_key text = fold mixed no_text text
 -- the same of a text in lower case and without underscores
 abbrev pub plain_mixed : ℕ → ℕ → ℕ
 plain_mixed key b = if b == char.underscore then key else mixed key (to_ascii_lowercase b)
+
+-- the keys of the name of an enum's value in lower case and without underscores: by itself, and
+-- behind the text that has the first key
+abbrev pub spelling_keys : ℕ → EnumValueDescriptor → List ℕ
+spelling_keys front v = text_key (encode_utf8_all (plain v.name))
+    ∷ fold mixed front (encode_utf8_all (plain v.name)) ∷ []
 
 -- ---- full names
 

