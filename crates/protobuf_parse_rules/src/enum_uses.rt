@@ -37,6 +37,7 @@ fn enum_of_field<'t, 'a>(
     }
 }
 
+/// Whether the field type is that of an enum.
 pub fn is_enum(type_: FieldType) -> bool
     ensures { result ≡ spec.is_enum type_ }
 {

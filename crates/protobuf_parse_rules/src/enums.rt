@@ -144,6 +144,7 @@ fn first_not_zero<'a>(proto3: bool, values: &[EnumValueDescriptorProto]) -> Opti
     if proto3 { not_zero(values) } else { None }
 }
 
+/// The first value, where its number isn't 0.
 pub fn not_zero<'a>(values: &[EnumValueDescriptorProto]) -> Option<Finding<'a>>
     ensures { option_map finding_view result ≡ not_zero (map enum_value_view values.now) }
 {
@@ -189,6 +190,7 @@ fn keys_of(alloc: Global, values: &[EnumValueDescriptorProto]) -> Result<Vec<u64
     Ok(keys)
 }
 
+/// Whether the enum allows values of one number.
 pub fn allows_alias(each: &EnumDescriptorProto) -> bool
     ensures { result ≡ allows_alias (enum_view each.now).options }
 {

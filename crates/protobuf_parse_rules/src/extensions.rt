@@ -19,6 +19,7 @@ use crate::rule::Rule;
 use crate::tables::Tables;
 use protobuf_parse_model::{FieldDescriptorProto, Label};
 
+/// A required extension.
 pub fn required_extension<'a>(label: Label) -> Option<Finding<'a>>
     ensures { option_map finding_view result ≡ spec.required_extension label }
 {

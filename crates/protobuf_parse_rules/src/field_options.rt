@@ -10,6 +10,7 @@ use crate::finding::{Finding, found_if};
 use crate::rule::Rule;
 use protobuf_parse_model::{FieldDescriptorProto, FieldOptions, FieldType, JSType, Label};
 
+/// Whether the label is `repeated`.
 pub fn is_repeated(label: Label) -> bool
     ensures { result ≡ spec.is_repeated label }
 {
@@ -25,6 +26,7 @@ fn is_packable(type_: FieldType) -> bool
     )
 }
 
+/// Whether the field type is that of a message, groups left out.
 pub fn is_message(type_: FieldType) -> bool
     ensures { result ≡ spec.is_message type_ }
 {

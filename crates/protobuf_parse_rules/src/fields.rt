@@ -27,6 +27,7 @@ use crate::violation::Violation;
 use protobuf_parse_model::FieldDescriptorProto;
 use std::alloc::{AllocError, Global};
 
+/// Tells what the fields of a body break, in their order. The one error is that memory is short.
 pub fn check_fields<'a>(
     alloc: Global,
     told: &mut Vec<Violation>,
@@ -127,6 +128,8 @@ fn check_barred<'a>(
     tell_each(alloc, told, body.spot(&field.name), &found)
 }
 
+/// Tells what the extensions of a body break, in their order. The one error is that memory is
+/// short.
 pub fn check_extensions<'a>(
     alloc: Global,
     told: &mut Vec<Violation>,

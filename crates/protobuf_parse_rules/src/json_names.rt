@@ -34,8 +34,8 @@ pub fn check_json_names<'b>(
     check_each(alloc, told, body, fields)
 }
 
-/// The keys of the names in JSON. It stands apart so that it has registers of its own: that spared 1
-/// million instructions for 100,000 fields.
+/// The keys of the names in JSON. It stands apart so that it has registers of its own: that spared
+/// 1 million instructions for 100,000 fields.
 #[inline(never)]
 fn keys_of(alloc: Global, fields: &[FieldDescriptorProto]) -> Result<Vec<u64>, AllocError>
     ensures { IfOk result

@@ -24,6 +24,7 @@ pub fn is_entry(holds: Holds<'_>) -> bool
     }
 }
 
+/// Whether no map's key is of this type.
 pub fn is_no_key(type_: FieldType) -> bool
     ensures { result ≡ spec.is_no_key type_ }
 {
@@ -38,6 +39,7 @@ pub fn is_no_key(type_: FieldType) -> bool
     )
 }
 
+/// The key of a map, where it has a type that no key has.
 pub fn key_type<'a>(holds: Holds<'_>, field: &FieldDescriptorProto) -> Option<Finding<'a>>
     ensures { option_map finding_view result
         ≡ spec.key_type (content_view holds.entry) (field_view field.now) }

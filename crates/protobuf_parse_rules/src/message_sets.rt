@@ -9,6 +9,7 @@ use crate::finding::{Finding, found_if};
 use crate::places::Holds;
 use crate::rule::Rule;
 
+/// Whether this is a message with the wire format of message sets.
 pub fn is_message_set(holds: Holds<'_>) -> bool
     ensures { result ≡ spec.is_message_set (content_view holds.entry) }
 {
@@ -21,6 +22,7 @@ pub fn is_message_set(holds: Holds<'_>) -> bool
     }
 }
 
+/// A field of a message set.
 pub fn field_of_set<'a>(holds: Holds<'_>) -> Option<Finding<'a>>
     ensures { option_map finding_view result ≡ spec.field_of_set (content_view holds.entry) }
 {

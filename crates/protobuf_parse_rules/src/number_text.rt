@@ -17,6 +17,7 @@ pub fn without_minus(text: &str) -> &str
     }
 }
 
+/// Whether the text begins with a minus.
 pub fn has_minus(text: &str) -> bool
     ensures { result ≡ starts_with_minus text.now }
 {

@@ -94,6 +94,7 @@ pub enum Holds<'a> {
 }
 
 impl<'a> Holds<'a> {
+    /// The fields of a message; a file has none.
     pub fn fields(&self) -> &'a [FieldDescriptorProto]
         ensures { map field_view result.now ≡ fields_of (content_view self.entry.now) }
     {
@@ -103,6 +104,7 @@ impl<'a> Holds<'a> {
         }
     }
 
+    /// The extensions that are declared here.
     pub fn extensions(&self) -> &'a [FieldDescriptorProto]
         ensures { map field_view result.now ≡ extensions_of (content_view self.entry.now) }
     {
@@ -112,6 +114,7 @@ impl<'a> Holds<'a> {
         }
     }
 
+    /// The extension ranges of a message; a file has none.
     pub fn extension_ranges(&self) -> &'a [ExtensionRange]
         ensures { map extension_range_view result.now
             ≡ extension_ranges (content_view self.entry.now) }
@@ -122,6 +125,7 @@ impl<'a> Holds<'a> {
         }
     }
 
+    /// The reserved ranges of a message; a file has none.
     pub fn reserved_ranges(&self) -> &'a [ReservedRange]
         ensures { map reserved_range_view result.now
             ≡ reserved_ranges (content_view self.entry.now) }
@@ -132,6 +136,7 @@ impl<'a> Holds<'a> {
         }
     }
 
+    /// The reserved names of a message; a file has none.
     pub fn reserved_names(&self) -> &'a [String]
         ensures { map string_bytes result.now ≡ reserved_names (content_view self.entry.now) }
     {
@@ -151,6 +156,7 @@ impl<'a> Holds<'a> {
         }
     }
 
+    /// The services of a file; a message has none.
     pub fn services(&self) -> &'a [ServiceDescriptorProto]
         ensures { map service_view result.now ≡ services_of (content_view self.entry.now) }
     {
@@ -160,6 +166,7 @@ impl<'a> Holds<'a> {
         }
     }
 
+    /// The enums that are declared here.
     pub fn enums(&self) -> &'a [EnumDescriptorProto]
         ensures { map enum_view result.now ≡ enums_of (content_view self.entry.now) }
     {

@@ -11,18 +11,21 @@ use crate::places::Holds;
 use crate::rule::Rule;
 use protobuf_parse_model::{FieldType, Label};
 
+/// Whether the label is `required`.
 pub fn is_required(label: Label) -> bool
     ensures { result ≡ spec.is_required label }
 {
     matches!(label, Label::Required)
 }
 
+/// A required field in proto3.
 pub fn required_field<'a>(proto3: bool, label: Label) -> Option<Finding<'a>>
     ensures { option_map finding_view result ≡ spec.required_field proto3 label }
 {
     found_if(proto3 && is_required(label), Rule::RequiredInProto3)
 }
 
+/// A group in proto3.
 pub fn group_field<'a>(proto3: bool, type_: FieldType) -> Option<Finding<'a>>
     ensures { option_map finding_view result ≡ spec.group_field proto3 type_ }
 {
@@ -32,6 +35,7 @@ pub fn group_field<'a>(proto3: bool, type_: FieldType) -> Option<Finding<'a>>
     )
 }
 
+/// A default in proto3.
 pub fn default_field<'a>(proto3: bool, default: &Option<String>) -> Option<Finding<'a>>
     ensures { option_map finding_view result
         ≡ spec.default_field proto3 (option_map string_bytes default.now) }
@@ -39,6 +43,7 @@ pub fn default_field<'a>(proto3: bool, default: &Option<String>) -> Option<Findi
     found_if(proto3 && default.is_some(), Rule::DefaultInProto3)
 }
 
+/// Extension ranges in a message of proto3.
 pub fn ranges_kept<'a>(proto3: bool, holds: Holds<'_>) -> Option<Finding<'a>>
     ensures { option_map finding_view result ≡ spec.ranges_kept proto3 (content_view holds.entry) }
 {
@@ -48,6 +53,7 @@ pub fn ranges_kept<'a>(proto3: bool, holds: Holds<'_>) -> Option<Finding<'a>>
     )
 }
 
+/// A message set in proto3.
 pub fn set_in_proto3<'a>(proto3: bool, holds: Holds<'_>) -> Option<Finding<'a>>
     ensures { option_map finding_view result
         ≡ spec.set_in_proto3 proto3 (content_view holds.entry) }
@@ -55,6 +61,7 @@ pub fn set_in_proto3<'a>(proto3: bool, holds: Holds<'_>) -> Option<Finding<'a>>
     found_if(proto3 && is_message_set(holds), Rule::MessageSetInProto3)
 }
 
+/// An extension in proto3 of what isn't an options message.
 pub fn extended<'a>(proto3: bool, extendee: &'a Option<String>) -> Option<Finding<'a>>
     ensures { option_map finding_view result
         ≡ spec.extended proto3 (option_map string_bytes extendee.now) }

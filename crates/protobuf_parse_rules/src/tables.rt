@@ -39,6 +39,7 @@ pub struct Types<'a> {
 }
 
 impl<'a> Types<'a> {
+    /// What is known of the message of this full name.
     pub fn message(&self, name: &'a str) -> Option<&KnownMessage<'a>>
         ensures { (all : List Place) → KnowsTypes self.now all →
             option_map (λ (m : Bor KnownMessage). known_message m.now) result
@@ -47,6 +48,7 @@ impl<'a> Types<'a> {
         self.messages.get(&keyed(name))
     }
 
+    /// What is known of the enum of this full name.
     pub fn enumeration(&self, name: &'a str) -> Option<&KnownEnum<'a>>
         ensures { (all : List Place) → KnowsTypes self.now all →
             option_map (λ (e : Bor KnownEnum). known_enum e.now) result
@@ -64,6 +66,7 @@ pub struct Tables<'a> {
 }
 
 impl<'a> Tables<'a> {
+    /// What is known of the message of this full name.
     pub fn message(&self, name: &'a str) -> Option<&KnownMessage<'a>>
         ensures { (all : List Place) → Knows self.now all →
             option_map (λ (m : Bor KnownMessage). known_message m.now) result
@@ -72,6 +75,7 @@ impl<'a> Tables<'a> {
         self.types.message(name)
     }
 
+    /// What is known of the enum of this full name.
     pub fn enumeration(&self, name: &'a str) -> Option<&KnownEnum<'a>>
         ensures { (all : List Place) → Knows self.now all →
             option_map (λ (e : Bor KnownEnum). known_enum e.now) result

@@ -15,6 +15,7 @@ pub struct Words<'a> {
 }
 
 impl<'a> Words<'a> {
+    /// The words, in any order.
     pub fn of(words: Vec<&'a str>) -> Words<'a>
         ensures { AreTexts result.sorted.items (texts_of words.entry.items) }
     {

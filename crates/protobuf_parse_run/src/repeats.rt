@@ -107,7 +107,7 @@ fn completing_import(
     mut files: Vec<u32>,
 ) -> Result<Option<Place>, AllocError>
     ensures { IfOk result (λ place. place ≡ completing_import
-        (reaches_number loaded.now.entries) files.entry.items
+        (reaches_number loaded.now.entries) files.items
         (imports (file_syntax tree.now).statements)) }
 {
     for statement in &tree.statements {
