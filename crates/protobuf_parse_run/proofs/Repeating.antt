@@ -1,14 +1,13 @@
 -- Where names that are declared twice are told, however the files are listed.
 use Rattle.std.proofs.Common.{◌≡◌, ℕ, zero, suc, Bool, true, false, not, cond, List, [], ◌∷◌}
-use Rattle.std.proofs.Common.{Option, Some, filter, map, refl, sym, ap, subst, ◌∙◌, arith}
-use Rattle.std.proofs.Common.{Contains, inl, inr, ◌+◌, ◌<◌, ◌++◌, drop, get_or, length}
+use Rattle.std.proofs.Common.{Option, None, Some, filter, map, refl, sym, ap, subst, ◌∙◌, arith}
+use Rattle.std.proofs.Common.{Contains, inl, inr}
 use Rattle.std.specs.Prelude.{bytes_eq, if◌then◌else◌, slice_get, string_bytes}
 use Rattle.std.proofs.lemmas.List.Elements.{Contains-append_cases, Contains-append_left}
 use Rattle.std.proofs.lemmas.List.Elements.{Contains-append_right}
 use Rattle.protobuf_parse_lexer.specs.declared.lexer.token.Place.{Place}
-use Rattle.protobuf_parse_syntax.specs.Dependencies.{imported, imports}
-use Rattle.protobuf_parse_syntax.specs.Trees.{FileSyntax, ImportSyntax, statement_syntax}
-use Rattle.protobuf_parse_syntax.specs.declared.tree.FileStatement.{FileStatement}
+use Rattle.protobuf_parse_syntax.specs.Dependencies.{imports}
+use Rattle.protobuf_parse_syntax.specs.Trees.{FileSyntax, ImportSyntax}
 use Rattle.protobuf_parse_model.specs.Descriptors.{Text}
 use Rattle.protobuf_parse_model.specs.Faults.{Among, here, there, Blames, Fault, Wrong}
 use Rattle.protobuf_parse_model.specs.Faults.{fault_view}
@@ -16,7 +15,7 @@ use Rattle.protobuf_parse_model.specs.declared.error.ElabError.{ElabError}
 use Rattle.protobuf_parse_model.specs.declared.error.ElabFailure.{ElabFailure}
 use Rattle.protobuf_parse_model.specs.declared.error.ElabFailure.TheVariants as failure
 use Rattle.protobuf_parse_model.specs.LastDeclared.{last_declared}
-use Rattle.protobuf_parse_model.specs.Linking.{before_others, link_faults}
+use Rattle.protobuf_parse_model.specs.Linking.{before_others, beginning, link_faults}
 use Rattle.protobuf_parse_elaboration.specs.FilesByPath.{AreDistinct, among, trees_at}
 use Rattle.protobuf_parse_run.specs.Repeats.{completing_import, is_nothing, is_of_extension, or_place}
 use Rattle.protobuf_parse_run.specs.Repeats.{declaring, out_of_reach, repeat_faults, repeat_place}
@@ -24,7 +23,6 @@ use Rattle.protobuf_parse_run.specs.Repeats.{told_at}
 use Rattle.protobuf_parse_run.specs.Run.{Files}
 use Rattle.protobuf_parse_run.specs.Loading.{LoadedEntry, file_at, named_trees, paths_in}
 use Rattle.protobuf_parse_run.specs.Walks.{import_paths}
-use Rattle.protobuf_parse_options.proofs.Found.{mapped_rest}
 use Rattle.protobuf_parse_run.proofs.FirstFaults.{none-before}
 use Rattle.protobuf_parse_run.proofs.Keeping.{bool_cases, or_left, or_right, text-same, text-true}
 use Rattle.protobuf_parse_run.proofs.Numbers.{only-one}
@@ -46,25 +44,6 @@ among-map f [] h = elim h [ ]
 among-map f (x ∷ xs) here = (x, here, refl)
 among-map f (x ∷ xs) (there h) = let r = among-map f xs h in (r.0, there r.1, r.2)
 
--- ** the imports of a file, statement by statement
-
-pub imports-next : (ss : List FileStatement) (i : ℕ) (s : FileStatement) → i < length ss
-    → s ≡ get_or ss i s
-    → imports (map statement_syntax (drop i ss))
-    ≡ imported (statement_syntax s) ++ imports (map statement_syntax (drop (i + 1) ss))
-imports-next ss i s lt is = ap imports (mapped_rest statement_syntax ss i s lt is)
-
-module _ {A : Type 0} (reaches : Text → A → Bool) (files : List A) where
-  pub no-import : (is rest : List ImportSyntax) → is ≡ []
-      → completing_import reaches files (is ++ rest) ≡ completing_import reaches files rest
-  no-import is rest none = rw none refl
-
-  pub one-import : (is rest : List ImportSyntax) (i : ImportSyntax) → is ≡ i ∷ []
-      → completing_import reaches files (is ++ rest)
-      ≡ (if is_nothing (out_of_reach reaches i.path files) then Some i.place
-      else completing_import reaches (out_of_reach reaches i.path files) rest)
-  one-import is rest i one = rw one refl
-
 -- ** lists that were filtered
 
 later : {A : Type 0} {x : A} (b : Bool) (y : A) (ys : List A) → Among ys x
@@ -74,10 +53,10 @@ later false y ys h = h
 
 pub kept : {A : Type 0} {x : A} (test : A → Bool) (xs : List A) → Among xs x → test x ≡ true
     → Among (filter test xs) x
-kept test [] h yes = elim h [ ]
-kept test (y ∷ xs) here yes =
-    subst (λ (b : Bool). Among (cond b (y ∷ filter test xs) (filter test xs)) y) (sym yes) here
-kept test (y ∷ xs) (there h) yes = later (test y) y (filter test xs) (kept test xs h yes)
+kept test [] h e = elim h [ ]
+kept test (y ∷ xs) here e =
+    subst (λ (b : Bool). Among (cond b (y ∷ filter test xs) (filter test xs)) y) (sym e) here
+kept test (y ∷ xs) (there h) e = later (test y) y (filter test xs) (kept test xs h e)
 
 first-kept : {A : Type 0} {x : A} (test : A → Bool) (b : Bool) (y : A) (xs ys : List A)
     → test y ≡ b → (Among ys x → Among xs x × (test x ≡ true)) → Among (cond b (y ∷ ys) ys) x
@@ -153,6 +132,15 @@ module _ {A B : Type 0} (f : Text → A → Bool) (g : Text → B → Bool) (Sam
 
 abbrev pub wrong_at : Wrong → Place → Fault
 wrong_at w p = record { place = p; wrong = w }
+
+-- a place that isn't the file's own is that of the import, or else the beginning
+pub place-behind : (own other : Option Place) (p : Place) → own ≡ None → other ≡ Some p
+    → p ≡ or_place own other
+place-behind own other p none is = rw (none, is) refl
+
+pub no-place : (own other : Option Place) → own ≡ None → other ≡ None
+    → beginning ≡ or_place own other
+no-place own other none nor = rw (none, nor) refl
 
 -- faults that stand among others stand there at their places
 pub told-same : (f g : Bool → Text → Place) (xs ys : List Fault) (y : Fault)
