@@ -448,9 +448,10 @@ module _ (files : Files) (loaded : List LoadedEntry) (tables : Tables) (log : Li
   numbered-here : (m : ℕ) (u : FileSyntax) → slice_get (with_next loaded t) m ≡ Some u
       → (q : Text) × IsOf m q
   numbered-here m u is =
-      named-of (slice_get with_p m) u
+      let r = named-of (slice_get with_p m) u
       (sym (slice_get-map (λ (f : Named). f.1) with_p m)
-      ∙ ap (λ (ts : List FileSyntax). slice_get ts m) (sym (next-trees loaded p t)) ∙ is)
+      ∙ ap (λ (ts : List FileSyntax). slice_get ts m) (sym (next-trees loaded p t)) ∙ is) in
+      (r.0, (r.1, r.2))
 
   -- the same files declare a name
   declared-alike : (extension : Bool) (name : Text)
