@@ -1,5 +1,5 @@
 -- Where in a file a full name is declared.
-use Rattle.std.specs.Prelude.{ℕ, Bool, true, false, List, [], ◌∷◌, ◌++◌, map, filter, nat_lt}
+use Rattle.std.specs.Prelude.{Bool, true, false, List, [], ◌∷◌, ◌++◌, map, filter, nat_lt}
 use Rattle.std.specs.Prelude.{Option, Some, None}
 use Rattle.protobuf_parse_lexer.specs.declared.lexer.token.Place.{Place}
 use Rattle.protobuf_parse_syntax.specs.Trees.{FileSyntax, StatementSyntax, file_enum, file_extend}

@@ -1,4 +1,4 @@
-use Rattle.std.proofs.Common.{◌≡◌, ℕ, filter, take}
+use Rattle.std.proofs.Common.{◌≡◌, filter, take}
 use Rattle.protobuf_parse_model.proofs.DeclaringFiles.{is_there}
 use Rattle.protobuf_parse_model.proofs.declaring.declaring_files.Given as goal
 

@@ -1,4 +1,4 @@
-use Rattle.std.proofs.Common.{◌≡◌, ◌∙◌, ◌++◌, [], ◌∷◌, None, Some, ap, map, sym, take}
+use Rattle.std.proofs.Common.{◌∙◌, ◌++◌, [], ◌∷◌, None, Some, ap, map, sym, take}
 use Rattle.std.proofs.lemmas.List.{map_more}
 use Rattle.protobuf_parse_syntax.specs.Trees.{file_syntax, statement_syntax}
 use Rattle.protobuf_parse_model.specs.Declarations.{Scope, file_scope}
