@@ -1,5 +1,5 @@
 -- Which files declare a full name, by the table of declarations.
-use Rattle.std.proofs.Common.{◌≡◌, ◌∙◌, ℕ, ◌+◌, Bool, cond, List, [], ◌∷◌, ◌++◌}
+use Rattle.std.proofs.Common.{◌≡◌, ◌∙◌, ℕ, Bool, cond, List, [], ◌∷◌, ◌++◌}
 use Rattle.std.proofs.Common.{Option, Some, None, filter, flat_map, refl, ap, arith}
 use Rattle.std.proofs.Common.{append-nil, slice_get}
 use Rattle.std.specs.Prelude.{nat_lt, option_to_list}

@@ -1,114 +1,63 @@
--- A statement declares a name where the table of what it declares has the name.
-use Rattle.std.proofs.Common.{◌≡◌, ◌∙◌, ℕ, ◌+◌, Bool, true, false, not, List, [], ◌∷◌, ◌++◌, map}
-use Rattle.std.proofs.Common.{filter, length, length-append, append-nil, cond, refl, sym, ap, arith}
-use Rattle.std.proofs.lemmas.List.{map-append, map-id}
-use Rattle.std.proofs.lemmas.List.Elements.{filter-append}
-use Rattle.protobuf_parse_syntax.specs.Trees.{StatementSyntax}
+-- The place of a name's last declaration, one declaration after another.
+use Rattle.std.proofs.Common.{◌≡◌, ◌∙◌, ◌<◌, ◌+◌, ℕ, suc, Bool, List, [], ◌∷◌, ◌++◌, map, flat_map}
+use Rattle.std.proofs.Common.{length, get_or, drop, refl, sym, ap, arith}
+use Rattle.std.proofs.Math.Seq.{drop-cons}
+use Rattle.std.specs.Prelude.{Option, bytes_eq, if◌then◌else◌, Some}
+use Rattle.protobuf_parse_base.specs.DeclaredNames.{name_bytes}
 use Rattle.protobuf_parse_lexer.specs.declared.lexer.token.Place.{Place}
-use Rattle.std.specs.Prelude.{bytes_eq, Option, Some, None}
-use Rattle.protobuf_parse_model.specs.declared.scope.seen.Declaration.{Declaration}
+use Rattle.protobuf_parse_syntax.proofs.Messages.{view_parts, views_message}
+use Rattle.protobuf_parse_syntax.specs.declared.tree.declaration.Message.{Message}
+use Rattle.protobuf_parse_syntax.specs.declared.tree.declaration.MessageStatement.TheVariants as statement
+use Rattle.protobuf_parse_syntax.specs.Trees.{MessageStatementSyntax, MessageSyntax}
+use Rattle.protobuf_parse_syntax.specs.Trees.{message_statements, message_statement_syntax}
+use Rattle.protobuf_parse_syntax.specs.Trees.{message_syntax, nested_message}
 use Rattle.protobuf_parse_model.specs.Descriptors.{Text}
-use Rattle.protobuf_parse_model.specs.Declarations.{DeclaredType, Scope, a_message, an_enum}
-use Rattle.protobuf_parse_model.specs.Declarations.{statement_extensions, statement_generated}
-use Rattle.protobuf_parse_model.specs.Declarations.{statement_types}
-use Rattle.protobuf_parse_model.specs.LastDeclared.{declares, declaring_place, last_place}
-use Rattle.protobuf_parse_model.specs.LastDeclared.{names_declared}
-use Rattle.protobuf_parse_model.specs.LastDeclared.{places_of_name}
-use Rattle.protobuf_parse_model.specs.Linking.{occurrences}
-use Rattle.protobuf_parse_model.specs.Tables.{declaration_kind, declared_by, declared_by_statement}
-use Rattle.protobuf_parse_model.specs.Tables.{extension_entry, generated_entry, is_of, type_entry}
-use Rattle.protobuf_parse_model.proofs.Counting as counting
+use Rattle.protobuf_parse_model.specs.Declarations.{Scope, inside}
+use Rattle.protobuf_parse_model.specs.LastDeclared.{Places, last_place, places_in, places_of}
+use Rattle.protobuf_parse_model.specs.LastDeclared.{type_place}
 
-abbrev counts : Bool → Declaration → Bool
-counts extension d = is_of extension d.kind
+-- of these and then of those
+pub last_append : (name : Text) (before : Option Place) (xs ys : Places)
+    → last_place name before (xs ++ ys) ≡ last_place name (last_place name before xs) ys
+last_append name before [] ys = refl
+last_append name before (x ∷ xs) ys =
+    last_append name (if bytes_eq x.name name then Some x.what else before) xs ys
 
-type_counts : (extension : Bool) (d : DeclaredType)
-    → is_of extension (type_entry d).what ≡ not extension
-type_counts extension d = at d.what
-  where
-    at : (k : _) → is_of extension (declaration_kind k) ≡ not extension
-    at a_message = refl
-    at an_enum = refl
+places_in_is : (extension : Bool) (scope : Scope) (ss : List MessageStatementSyntax)
+    → places_in extension scope (message_statements ss) ≡ flat_map (places_of extension scope) ss
+places_in_is extension scope [] = refl
+places_in_is extension scope (s ∷ ss) =
+    ap (λ ps. places_of extension scope s ++ ps) (places_in_is extension scope ss)
 
-occurrences-both : (name : Text) (xs ys : List Text)
-    → occurrences name (xs ++ ys) ≡ occurrences name xs + occurrences name ys
-occurrences-both name xs ys = ap length (filter-append (bytes_eq name) xs ys)
-    ∙ length-append (filter (bytes_eq name) xs) (filter (bytes_eq name) ys)
+-- a message: it, and what its statements declare
+pub places-view : (extension : Bool) (scope : Scope) (m : Message)
+    → places_of extension scope (nested_message (message_syntax m))
+    ≡ type_place extension scope (name_bytes m.name) m.place
+    ++ flat_map (places_of extension (inside scope (name_bytes m.name)))
+    (map message_statement_syntax m.body.items)
+places-view extension scope m =
+    ap (λ ps. type_place extension scope (message_syntax m).name (message_syntax m).place ++ ps)
+    (places_in_is extension (inside scope (message_syntax m).name) (message_syntax m).body)
+    ∙ ap (λ (x : MessageSyntax). type_place extension scope x.name x.place
+    ++ flat_map (places_of extension (inside scope x.name)) x.body) (view_parts m)
 
-module _ (name : Text) (n : ℕ) (scope : Scope) (s : StatementSyntax) where
-  parts : (extension : Bool)
-      → length (filter (counts extension) (declared_by_statement name n scope s))
-      ≡ length (filter (counts extension) (declared_by type_entry name n (statement_types scope s)))
-      + (length (filter (counts extension)
-      (declared_by generated_entry name n (statement_generated scope s)))
-      + length (filter (counts extension)
-      (declared_by extension_entry name n (statement_extensions scope s))))
-  parts extension =
-      counting.counted-append (counts extension) name
-      (declared_by type_entry name n (statement_types scope s))
-      (declared_by generated_entry name n (statement_generated scope s)
-      ++ declared_by extension_entry name n (statement_extensions scope s))
-      ∙ ap (λ k. length (filter (counts extension)
-      (declared_by type_entry name n (statement_types scope s))) + k)
-      (counting.counted-append (counts extension) name
-      (declared_by generated_entry name n (statement_generated scope s))
-      (declared_by extension_entry name n (statement_extensions scope s)))
+-- a message inside another as a message
+pub places_of-view : (extension : Bool) (scope : Scope) (m : Message)
+    → places_of extension scope (message_statement_syntax (statement.Message m))
+    ≡ places_of extension scope (nested_message (message_syntax m))
+places_of-view extension scope m = ap (places_of extension scope) (views_message m)
 
-  -- as often as it declares the name it has a declaration there
-  pub counted-there : (extension : Bool)
-      → length (filter (counts extension) (declared_by_statement name n scope s))
-      ≡ occurrences name (names_declared extension scope s)
-  counted-there false =
-      let types = counting.all (counts false) name type_entry n (type_counts false)
-      (statement_types scope s) in
-      let behind = counting.all (counts false) name generated_entry n (λ d. refl)
-      (statement_generated scope s)
-      ∙ ap (occurrences name) (map-id (statement_generated scope s)) in
-      let others = counting.none (counts false) name extension_entry n (λ d. refl)
-      (statement_extensions scope s) in
-      let sum = occurrences-both name (map (λ (d : DeclaredType). d.name) (statement_types scope s))
-      (statement_generated scope s) in
-      parts false ∙ omega (arith, types, behind, others, sum)
-  counted-there true =
-      let types = counting.none (counts true) name type_entry n (type_counts true)
-      (statement_types scope s) in
-      let behind = counting.none (counts true) name generated_entry n (λ d. refl)
-      (statement_generated scope s) in
-      let others = counting.all (counts true) name extension_entry n (λ d. refl)
-      (statement_extensions scope s) in
-      parts true ∙ omega (arith, types, behind, others)
-
--- with a place more
-pub last_more : (before : Option Place) (ps : List Place) (p : Place)
-    → last_place before (ps ++ p ∷ []) ≡ Some p
-last_more before [] p = refl
-last_more before (q ∷ ps) p = last_more (Some q) ps p
-
--- ---- one statement more
-
-module _ (extension : Bool) (scope : Scope) (name : Text) (ss : List StatementSyntax)
-    (s : StatementSyntax) where
-  places-more : (b : Bool) → declares extension scope name s ≡ b
-      → places_of_name extension scope name (ss ++ s ∷ [])
-      ≡ places_of_name extension scope name ss ++ map declaring_place (cond b (s ∷ []) [])
-  places-more b e =
-      ap (map declaring_place) (filter-append (declares extension scope name) ss (s ∷ [])
-      ∙ ap (λ c. filter (declares extension scope name) ss ++ cond c (s ∷ []) []) e)
-      ∙ map-append declaring_place (filter (declares extension scope name) ss) (cond b (s ∷ []) [])
-
-  -- it declares the name
-  pub found_now : (found : Option Place) → found ≡ Some (declaring_place s)
-      → declares extension scope name s ≡ true
-      → found ≡ last_place None (places_of_name extension scope name (ss ++ s ∷ []))
-  found_now found is e =
-      is ∙ sym (last_more None (places_of_name extension scope name ss) (declaring_place s))
-      ∙ ap (last_place None) (sym (places-more true e))
-
-  -- it doesn't
-  pub found_before : (found : Option Place)
-      → found ≡ last_place None (places_of_name extension scope name ss)
-      → declares extension scope name s ≡ false
-      → found ≡ last_place None (places_of_name extension scope name (ss ++ s ∷ []))
-  found_before found is e =
-      is ∙ ap (last_place None) (sym (append-nil (places_of_name extension scope name ss))
-      ∙ sym (places-more false e))
+-- with one statement more
+pub last_more : {S X : Type 0} (name : Text) (places : X → Places) (view : S → X) (xs : List S)
+    (i : ℕ) (x : S) (before after : Option Place) → i < length xs → x ≡ get_or xs i x
+    → after ≡ last_place name before (places (view x))
+    → last_place name after (flat_map places (map view (drop (i + 1) xs)))
+    ≡ last_place name before (flat_map places (map view (drop i xs)))
+last_more name places view xs i x before after lt at is =
+    let rest = flat_map places (map view (drop (i + 1) xs)) in
+    let next : suc i ≡ i + 1 = omega arith in
+    ap (λ b. last_place name b rest) is
+    ∙ sym (last_append name before (places (view x)) rest)
+    ∙ ap (λ y. last_place name before (places (view y) ++ rest)) at
+    ∙ ap (λ ys. last_place name before (flat_map places (map view ys)))
+    (sym (drop-cons xs i x lt ∙ ap (λ y. get_or xs i x ∷ drop y xs) next))

@@ -7,7 +7,7 @@ use Rattle.std.specs.List.{list_any}
 use Rattle.std.specs.Global.{Global, Vec}
 use Rattle.std.specs.BTreeMap.{BTreeMap, get, keys}
 use Rattle.std.specs.Ordering.{nat_cmp}
-use Rattle.protobuf_parse_syntax.specs.Trees.{FileSyntax, StatementSyntax}
+use Rattle.protobuf_parse_syntax.specs.Trees.{FileSyntax}
 use Rattle.protobuf_parse_model.specs.declared.error.ElabErrorKind.{ElabErrorKind}
 use Rattle.protobuf_parse_model.specs.declared.error.ElabErrorKind.TheVariants.{TypeDeclaredTwice}
 use Rattle.protobuf_parse_model.specs.declared.error.ElabErrorKind.TheVariants.{ExtensionDeclaredTwice}
@@ -23,8 +23,7 @@ use Rattle.protobuf_parse_model.specs.Linking.{beginning}
 use Rattle.protobuf_parse_model.specs.Declarations as declared
 use Rattle.protobuf_parse_model.specs.Declarations.{Declared, DeclaredType, DeclaredExtension}
 use Rattle.protobuf_parse_model.specs.Declarations.{a_message, an_enum, file_types, file_generated}
-use Rattle.protobuf_parse_model.specs.Declarations.{file_extensions, statement_extensions}
-use Rattle.protobuf_parse_model.specs.Declarations.{statement_generated, statement_types}
+use Rattle.protobuf_parse_model.specs.Declarations.{file_extensions}
 use Rattle.protobuf_parse_model.specs.SeenFiles.{declared_as}
 
 -- a full name, and what it is declared as
@@ -56,13 +55,6 @@ declared_in_file name file t =
     declared_by type_entry name file (file_types t)
     ++ (declared_by generated_entry name file (file_generated t)
     ++ declared_by extension_entry name file (file_extensions t))
-
--- the same in a statement of a file, whose scope this is
-abbrev pub declared_by_statement : Text → ℕ → declared.Scope → StatementSyntax → List Declaration
-declared_by_statement name file scope s =
-    declared_by type_entry name file (statement_types scope s)
-    ++ (declared_by generated_entry name file (statement_generated scope s)
-    ++ declared_by extension_entry name file (statement_extensions scope s))
 
 -- the declarations in files, of which the first has the number n and each next one the next number
 abbrev pub declared_in : Text → ℕ → List FileSyntax → List Declaration

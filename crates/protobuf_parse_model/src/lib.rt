@@ -2,6 +2,7 @@
 #![tactic(auto)]
 
 mod customs;
+mod declared_at;
 mod declaring;
 mod descriptor;
 mod error;
@@ -10,7 +11,8 @@ mod made_names;
 mod scope;
 
 pub use customs::{Construct, CustomOptions, WithoutCustoms, path_text};
-pub use declaring::{declaring_files, last_declared};
+pub use declared_at::last_declared;
+pub use declaring::declaring_files;
 pub use descriptor::{
     CType, DescriptorProto, EnumDescriptorProto, EnumOptions, EnumReservedRange,
     EnumValueDescriptorProto, EnumValueOptions, ExtensionRange, FieldDescriptorProto, FieldOptions,
@@ -19,7 +21,7 @@ pub use descriptor::{
     OneofOptions, OptimizeMode, ReservedRange, ServiceDescriptorProto, ServiceOptions,
 };
 pub use error::{ElabError, ElabErrorKind, ElabFailure, fault, tell};
-pub use linking::link;
+pub use linking::{BEGINNING, link};
 pub use made_names::{entry_name, group_field_name};
 pub use scope::{
     Context, Declaration, DeclarationKind, Declarations, Meaning, Seen, TypeKind, file_scope,

@@ -154,7 +154,7 @@ fn times_by_file(seen: &Seen<'_>, declarations: &[Declaration], extension: bool)
 }
 
 /// How many of the declarations are of extensions, or else of types.
-pub fn number_of(declarations: &[Declaration], extension: bool) -> usize
+fn number_of(declarations: &[Declaration], extension: bool) -> usize
     ensures { result ≡ length (filter
         (λ (d : declaration.Declaration). is_of extension d.kind) declarations.now) }
 {

@@ -28,7 +28,7 @@ mod seen;
 use crate::descriptor::FieldType;
 use by_hash::declared_of;
 pub use by_hash::hash_of;
-pub use declare::{add_statement_names, file_scope, scope_of_package};
+pub use declare::{file_scope, scope_of_package};
 pub use ordered::in_file;
 use protobuf_parse_syntax::Syntax;
 pub use seen::{Declaration, DeclarationKind, Declarations, Seen, TypeKind};

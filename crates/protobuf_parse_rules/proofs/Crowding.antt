@@ -1,15 +1,17 @@
--- Keys of which none of those that share a place stands twice.
-use Rattle.std.proofs.Common.{◌≡◌, ◌≢◌, ℕ, ◌+◌, ◌≤◌, ◌<◌, ◌%◌, Bool, true, false, cond, List, []}
+-- Keys of which none of those that share a slot stands twice.
+use Rattle.std.proofs.Common.{◌≡◌, ◌≢◌, ℕ, ◌+◌, ◌*◌, ◌≤◌, ◌<◌, ◌%◌, Bool, true, false, cond, List, []}
 use Rattle.std.proofs.Common.{◌∷◌, ◌++◌, refl, sym, ap, subst, ◌∙◌, append-nil, arith, length, inl}
-use Rattle.std.proofs.Common.{inr, get_or, set, take, drop, length-set}
+use Rattle.std.proofs.Common.{inr, get_or, set, map, take, drop, length-set}
 use Rattle.std.proofs.Math.Dec.{eqb}
-use Rattle.std.specs.Prelude.{min, nat_lt, slice_index_or}
+use Rattle.std.proofs.Math.Nat.{div-lt_iff_lt-mul, mul-lt-mul_of_pos_right, mul_comm}
+use Rattle.std.specs.Prelude.{◌/◌, ◌^◌, min, nat_lt, slice_index_or}
 use Rattle.std.specs.List.{IsDistinct, AllByRecursion, filter}
 use Rattle.std.proofs.lemmas.Bool.{cases_Bool, eqb-true}
 use Rattle.std.proofs.lemmas.Bool.Decides.{nat_tests}
 use Rattle.std.proofs.lemmas.List.{map-append, get_or-set_same, get_or-set_other, drop_all}
 use Rattle.std.proofs.lemmas.List.{take_all}
-use Rattle.protobuf_parse_rules.specs.Crowds.{Counts, how_many, is_crowded, one_if, places_of}
+use Rattle.protobuf_parse_rules.specs.Crowds.{Counts, how_many, is_crowded, one_if, slot_among}
+use Rattle.protobuf_parse_rules.specs.Crowds.{slots_of}
 use Rattle.protobuf_parse_rules.proofs.Keying.{eqb_comm}
 use Rattle.protobuf_parse_rules.proofs.Lone.{eqb_same, few, how_many-append}
 
@@ -43,22 +45,22 @@ distinct [] few = tt
 distinct (x ∷ xs) few =
     (never x xs (alone x xs (few x)), distinct xs (λ k. rest_few k x xs (few k)))
 
--- a number stands in a list no more often than its place among the places
-place_first : (n k x : ℕ) (xs : List ℕ) (b : Bool) → eqb x k ≡ b
-    → how_many k xs ≤ how_many (k % n) (places_of n xs)
-    → how_many k (x ∷ xs) ≤ how_many (k % n) (places_of n (x ∷ xs))
-place_first n k x xs true same rest =
+-- a number stands in a list no more often than what is made of it among what is made of them
+made_first : (f : ℕ → ℕ) (k x : ℕ) (xs : List ℕ) (b : Bool) → eqb x k ≡ b
+    → how_many k xs ≤ how_many (f k) (map f xs)
+    → how_many k (x ∷ xs) ≤ how_many (f k) (map f (x ∷ xs))
+made_first f k x xs true same rest =
     let one : one_if (eqb x k) ≡ 1 = ap one_if same in
-    let there : one_if (eqb (x % n) (k % n)) ≡ 1 =
-    ap one_if (eqb_same (x % n) (k % n) (ap (λ y. y % n) (eqb-true x k same))) in
+    let there : one_if (eqb (f x) (f k)) ≡ 1 =
+    ap one_if (eqb_same (f x) (f k) (ap f (eqb-true x k same))) in
     omega (arith, one, there, rest)
-place_first n k x xs false other rest =
+made_first f k x xs false other rest =
     let none : one_if (eqb x k) ≡ 0 = ap one_if other in
     omega (arith, none, rest)
 
-by_place : (n k : ℕ) (xs : List ℕ) → how_many k xs ≤ how_many (k % n) (places_of n xs)
-by_place n k [] = omega arith
-by_place n k (x ∷ xs) = place_first n k x xs (eqb x k) refl (by_place n k xs)
+by_slot : (f : ℕ → ℕ) (k : ℕ) (xs : List ℕ) → how_many k xs ≤ how_many (f k) (map f xs)
+by_slot f k [] = omega arith
+by_slot f k (x ∷ xs) = made_first f k x xs (eqb x k) refl (by_slot f k xs)
 
 -- those that pass a test, of a number that passes it
 kept_first : (p : ℕ → Bool) (k x : ℕ) (xs : List ℕ) (b : Bool) → p x ≡ b → p k ≡ true
@@ -83,32 +85,47 @@ least n e = grind (arith, nat_tests)
 few_of : (a b n : ℕ) → a ≤ b → n ≡ min 2 b → n ≤ 1 → a ≤ 1
 few_of a b n le is small = omega (arith, le, is, small)
 
--- Where no number that shares its place stands twice, none does.
-pub crowds_apart : (keys counts : List ℕ) → 0 < length counts → Counts keys counts
-    → IsDistinct eqb (filter (is_crowded counts) keys) → IsDistinct eqb keys
-crowds_apart keys counts some counted apart = distinct keys (λ k. at k (is_crowded counts k) refl)
-  where
-    within : (k : ℕ) → k % length counts < length counts
-    within k = grind (arith, some)
+-- a part of so many is below them
+pub part_within : (part n : ℕ) → part < 2 ^ 32 → 0 < n → part * n / 2 ^ 32 < n
+part_within part n small some =
+    (div-lt_iff_lt-mul {2 ^ 32} {part * n} {n} (omega arith)).1
+    (subst (λ m. part * n < m) (mul_comm (2 ^ 32) n) (mul-lt-mul_of_pos_right small some))
 
-    at : (k : ℕ) (b : Bool) → is_crowded counts k ≡ b → how_many k keys ≤ 1
+upper_half : (k spread : ℕ) → k * spread % 2 ^ 64 / 2 ^ 32 < 2 ^ 32
+upper_half k spread = omega arith
+
+pub slot_within : (spread n k : ℕ) → 0 < n → slot_among spread n k < n
+slot_within spread n k some =
+    part_within (k * spread % 2 ^ 64 / 2 ^ 32) n (upper_half k spread) some
+
+-- Where no number that shares its slot stands twice, none does.
+pub crowds_apart : (spread : ℕ) (keys counts : List ℕ) → 0 < length counts
+    → Counts spread keys counts
+    → IsDistinct eqb (filter (is_crowded spread counts) keys) → IsDistinct eqb keys
+crowds_apart spread keys counts some counted apart =
+    distinct keys (λ k. at k (is_crowded spread counts k) refl)
+  where
+    abbrev slot : ℕ → ℕ
+    slot = slot_among spread (length counts)
+
+    at : (k : ℕ) (b : Bool) → is_crowded spread counts k ≡ b → how_many k keys ≤ 1
     at k true crowded =
-        let same = kept (is_crowded counts) k keys crowded in
-        let once = few (filter (is_crowded counts) keys) apart k in
+        let same = kept (is_crowded spread counts) k keys crowded in
+        let once = few (filter (is_crowded spread counts) keys) apart k in
         omega (arith, same, once)
     at k false lone =
-        few_of (how_many k keys) (how_many (k % length counts) (places_of (length counts) keys))
-        (slice_index_or counts (k % length counts) 0) (by_place (length counts) k keys)
-        (counted (k % length counts) (within k))
-        (least (slice_index_or counts (k % length counts) 0) lone)
+        few_of (how_many k keys) (how_many (slot k) (slots_of spread (length counts) keys))
+        (slice_index_or counts (slot k) 0) (by_slot slot k keys)
+        (counted (slot k) (slot_within spread (length counts) k some))
+        (least (slice_index_or counts (slot k) 0) lone)
 
 -- ---- one number more
 
-more_there : (n k p : ℕ) (keys : List ℕ) → how_many p (places_of n (keys ++ k ∷ []))
-    ≡ how_many p (places_of n keys) + one_if (eqb (k % n) p)
-more_there n k p keys =
-    ap (how_many p) (map-append (λ x. x % n) keys (k ∷ []))
-    ∙ how_many-append p (places_of n keys) (k % n ∷ [])
+more_there : (f : ℕ → ℕ) (k p : ℕ) (keys : List ℕ) → how_many p (map f (keys ++ k ∷ []))
+    ≡ how_many p (map f keys) + one_if (eqb (f k) p)
+more_there f k p keys =
+    ap (how_many p) (map-append f keys (k ∷ []))
+    ∙ how_many-append p (map f keys) (f k ∷ [])
     ∙ omega arith
 
 more_of : (c h : ℕ) → c ≡ min 2 h → c < 2 → c + 1 ≡ min 2 (h + 1)
@@ -120,58 +137,63 @@ no_more_of c h e l = omega (arith, e, l)
 no_other_of : (c h : ℕ) → c ≡ min 2 h → c ≡ min 2 (h + 0)
 no_other_of c h e = omega (arith, e)
 
--- the place of the number was said to have fewer than two
-pub counted_more : (keys counts : List ℕ) (k q : ℕ) → q ≡ k % length counts → q < length counts
-    → get_or counts q 0 < 2 → Counts keys counts
-    → Counts (keys ++ k ∷ []) (set counts q (get_or counts q 0 + 1))
-counted_more keys counts k q is within small counted p lt =
-    at (eqb (k % length counts) p) refl
-    ∙ ap (λ n. min 2 (how_many p (places_of n (keys ++ k ∷ []))))
+-- the slot of the number was said to have fewer than two
+pub counted_more : (spread : ℕ) (keys counts : List ℕ) (k q : ℕ)
+    → q ≡ slot_among spread (length counts) k → q < length counts
+    → get_or counts q 0 < 2 → Counts spread keys counts
+    → Counts spread (keys ++ k ∷ []) (set counts q (get_or counts q 0 + 1))
+counted_more spread keys counts k q is within small counted p lt =
+    at (eqb (slot k) p) refl
+    ∙ ap (λ n. min 2 (how_many p (slots_of spread n (keys ++ k ∷ []))))
     (sym (length-set counts q (get_or counts q 0 + 1)))
   where
+    abbrev slot : ℕ → ℕ
+    slot = slot_among spread (length counts)
+
     there : p < length counts
     there = subst (λ n. p < n) (length-set counts q (get_or counts q 0 + 1)) lt
 
-    at : (b : Bool) → eqb (k % length counts) p ≡ b
+    at : (b : Bool) → eqb (slot k) p ≡ b
         → get_or (set counts q (get_or counts q 0 + 1)) p 0
-        ≡ min 2 (how_many p (places_of (length counts) (keys ++ k ∷ [])))
+        ≡ min 2 (how_many p (map slot (keys ++ k ∷ [])))
     at true same =
-        let here : p ≡ q = sym (eqb-true (k % length counts) p same) ∙ sym is in
+        let here : p ≡ q = sym (eqb-true (slot k) p same) ∙ sym is in
         ap (λ x. get_or (set counts q (get_or counts q 0 + 1)) x 0) here
         ∙ get_or-set_same counts q (get_or counts q 0 + 1) 0 within
-        ∙ more_of (get_or counts q 0) (how_many q (places_of (length counts) keys))
-        (counted q within) small
-        ∙ ap (λ x. min 2 (how_many x (places_of (length counts) keys) + 1)) (sym here)
-        ∙ ap (λ b. min 2 (how_many p (places_of (length counts) keys) + one_if b)) (sym same)
-        ∙ ap (min 2) (sym (more_there (length counts) k p keys))
+        ∙ more_of (get_or counts q 0) (how_many q (map slot keys)) (counted q within) small
+        ∙ ap (λ x. min 2 (how_many x (map slot keys) + 1)) (sym here)
+        ∙ ap (λ b. min 2 (how_many p (map slot keys) + one_if b)) (sym same)
+        ∙ ap (min 2) (sym (more_there slot k p keys))
     at false other =
-        let apart : p ≢ q = λ here. other_number (k % length counts) p other (sym is ∙ sym here) in
+        let apart : p ≢ q = λ here. other_number (slot k) p other (sym is ∙ sym here) in
         get_or-set_other counts q p (get_or counts q 0 + 1) 0 apart
-        ∙ no_other_of (get_or counts p 0) (how_many p (places_of (length counts) keys))
-        (counted p there)
-        ∙ ap (λ b. min 2 (how_many p (places_of (length counts) keys) + one_if b)) (sym other)
-        ∙ ap (min 2) (sym (more_there (length counts) k p keys))
+        ∙ no_other_of (get_or counts p 0) (how_many p (map slot keys)) (counted p there)
+        ∙ ap (λ b. min 2 (how_many p (map slot keys) + one_if b)) (sym other)
+        ∙ ap (min 2) (sym (more_there slot k p keys))
 
 -- or to have two and more already
-pub counted_enough : (keys counts : List ℕ) (k q : ℕ) → q ≡ k % length counts
-    → q < length counts → 2 ≤ get_or counts q 0 → Counts keys counts
-    → Counts (keys ++ k ∷ []) counts
-counted_enough keys counts k q is within large counted p lt =
-    at (eqb (k % length counts) p) refl
+pub counted_enough : (spread : ℕ) (keys counts : List ℕ) (k q : ℕ)
+    → q ≡ slot_among spread (length counts) k
+    → q < length counts → 2 ≤ get_or counts q 0 → Counts spread keys counts
+    → Counts spread (keys ++ k ∷ []) counts
+counted_enough spread keys counts k q is within large counted p lt =
+    at (eqb (slot k) p) refl
   where
-    at : (b : Bool) → eqb (k % length counts) p ≡ b
-        → get_or counts p 0 ≡ min 2 (how_many p (places_of (length counts) (keys ++ k ∷ [])))
+    abbrev slot : ℕ → ℕ
+    slot = slot_among spread (length counts)
+
+    at : (b : Bool) → eqb (slot k) p ≡ b
+        → get_or counts p 0 ≡ min 2 (how_many p (map slot (keys ++ k ∷ [])))
     at true same =
-        let here : q ≡ p = is ∙ eqb-true (k % length counts) p same in
-        no_more_of (get_or counts p 0) (how_many p (places_of (length counts) keys))
+        let here : q ≡ p = is ∙ eqb-true (slot k) p same in
+        no_more_of (get_or counts p 0) (how_many p (map slot keys))
         (counted p lt) (subst (λ x. 2 ≤ get_or counts x 0) here large)
-        ∙ ap (λ b. min 2 (how_many p (places_of (length counts) keys) + one_if b)) (sym same)
-        ∙ ap (min 2) (sym (more_there (length counts) k p keys))
+        ∙ ap (λ b. min 2 (how_many p (map slot keys) + one_if b)) (sym same)
+        ∙ ap (min 2) (sym (more_there slot k p keys))
     at false other =
-        no_other_of (get_or counts p 0) (how_many p (places_of (length counts) keys))
-        (counted p lt)
-        ∙ ap (λ b. min 2 (how_many p (places_of (length counts) keys) + one_if b)) (sym other)
-        ∙ ap (min 2) (sym (more_there (length counts) k p keys))
+        no_other_of (get_or counts p 0) (how_many p (map slot keys)) (counted p lt)
+        ∙ ap (λ b. min 2 (how_many p (map slot keys) + one_if b)) (sym other)
+        ∙ ap (min 2) (sym (more_there slot k p keys))
 
 -- a list that is written back whole
 pub written_back : (items new : List ℕ) (n : ℕ) → length new ≡ length items → n ≡ length items

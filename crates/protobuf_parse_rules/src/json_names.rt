@@ -1,14 +1,14 @@
 //! Names in JSON, and which fields have them.
 
-ghost use Rattle.std.specs.Prelude.{◌≡◌, ◌++◌, [], ◌∷◌, map, pos, IfOk, OnOk, string_bytes};
+ghost use Rattle.std.specs.Prelude.{◌≡◌, ◌++◌, [], ◌∷◌, map, IfOk, OnOk, string_bytes};
 ghost use Rattle.protobuf_parse_model.specs.Descriptors.{FieldDescriptor, field_view};
 ghost use Rattle.protobuf_parse_rules.specs.Claims.{Claims, conflicts};
 ghost use Rattle.protobuf_parse_rules.specs.JsonNames.{json_claim, json_rule};
-ghost use Rattle.protobuf_parse_rules.specs.Keys.{key_of};
+ghost use Rattle.protobuf_parse_rules.specs.Keys.{hash_of};
 ghost use Rattle.protobuf_parse_rules.specs.Rules.{breaches_told};
 
 use crate::claims::{Held, Holders, Thing, check_claim};
-use crate::keys::{are_apart, key_of};
+use crate::keys::{are_apart, hash_of};
 use crate::places::Body;
 use crate::violation::Violation;
 use protobuf_parse_model::FieldDescriptorProto;
@@ -34,17 +34,15 @@ pub fn check_json_names<'b>(
     check_each(alloc, told, body, fields)
 }
 
-/// The keys of the names in JSON. It stands apart so that it has registers of its own: that spared
-/// 1 million instructions for 100,000 fields.
-#[inline(never)]
+/// The keys of the names in JSON.
 fn keys_of(alloc: Global, fields: &[FieldDescriptorProto]) -> Result<Vec<u64>, AllocError>
     ensures { IfOk result
-        (λ keys. keys.items ≡ map (λ (f : FieldDescriptor). key_of (pos 0) f.json_name)
+        (λ keys. keys.items ≡ map (λ (f : FieldDescriptor). hash_of f.json_name)
         (map field_view fields.now)) }
 {
     let mut keys = Vec::with_capacity(alloc, fields.len())?;
     'fields: for field in fields {
-        keys.push(key_of(0, &field.json_name))?;
+        keys.push(hash_of(&field.json_name))?;
     }
     Ok(keys)
 }

@@ -14,7 +14,8 @@ ghost use Rattle.protobuf_parse_rules.specs.Numbers.{extension_claims};
 ghost use Rattle.protobuf_parse_rules.specs.Numbers.{field_claims, number_rule};
 
 use crate::claims::{Held, Holders, Thing, check_claim};
-use crate::keys::{NO_TEXT, are_apart, key_of, text_key};
+use crate::crowds::many_are_apart;
+use crate::keys::{NO_TEXT, key_of, text_key};
 use crate::places::{Body, Holds};
 use crate::uses::has_extensions;
 use crate::violation::Violation;
@@ -32,7 +33,7 @@ pub fn numbers_are_apart(alloc: Global, bodies: &[Body<'_>]) -> Result<bool, All
         return claims_are_apart(alloc, bodies);
     }
     let keys = message_keys(alloc, bodies)?;
-    if are_apart(keys) {
+    if many_are_apart(alloc, &keys)? {
         return Ok(true);
     }
     claims_are_apart(alloc, bodies)
@@ -106,7 +107,8 @@ fn claims_are_apart(alloc: Global, bodies: &[Body<'_>]) -> Result<bool, AllocErr
     'bodies: for body in bodies {
         add_keys(&mut keys, body)?;
     }
-    Ok(are_apart(keys))
+    let apart = many_are_apart(alloc, &keys)?;
+    Ok(apart)
 }
 
 fn add_keys(keys: &mut Vec<u64>, body: &Body<'_>) -> Result<(), AllocError>

@@ -13,13 +13,10 @@ ghost use Rattle.protobuf_parse_run.specs.Repeats.{out_of_reach, told_at};
 use crate::loaded::LoadedFiles;
 use protobuf_parse_lexer::Place;
 use protobuf_parse_model::{
-    ElabError, ElabErrorKind, ElabFailure, Seen, declaring_files, last_declared, link,
+    BEGINNING, ElabError, ElabErrorKind, ElabFailure, Seen, declaring_files, last_declared, link,
 };
 use protobuf_parse_syntax::{FileStatement, FileTree, Import};
 use std::alloc::{AllocError, Global};
-
-/// Where a file begins.
-const BEGINNING: Place = Place { line: 1, col: 1 };
 
 /// Refuses a full name that the files which a file reaches declare more than once, as
 /// [`link`](protobuf_parse_model::link) does, and tells it at its place: at the last statement of

@@ -16,13 +16,13 @@ ghost use Rattle.protobuf_parse_model.specs.ByHash.{hash_of};
 ghost use Rattle.protobuf_parse_model.specs.FileOrder.{FilesAscend};
 ghost use Rattle.protobuf_parse_model.specs.SeenFiles.{declared_as, kind_view, name_texts};
 ghost use Rattle.protobuf_parse_model.specs.Tables.{Adds, AddsOne, KeepsListed, ListsOne, SaysSame};
-ghost use Rattle.protobuf_parse_model.specs.Tables.{TableTells, declared_by_statement};
+ghost use Rattle.protobuf_parse_model.specs.Tables.{TableTells};
 ghost use Rattle.protobuf_parse_model.specs.Tables.{names_listed};
 ghost use Rattle.protobuf_parse_model.specs.Tables.{type_entry};
 
 use super::by_hash::{add_alike, hash_of, insert_first};
-use super::extensions::{add_extensions, add_extensions_in};
-use super::generated::{add_generated, add_generated_in};
+use super::extensions::add_extensions;
+use super::generated::add_generated;
 use super::seen::{Declaration, DeclarationKind, Declarations, TypeKind};
 use super::{declarations_of, full_name};
 use protobuf_parse_syntax::{FileStatement, FileTree, Message, MessageStatement};
@@ -53,23 +53,6 @@ impl Declarations {
         add_generated(self, alloc, file, &mut scope, &tree.statements)?;
         add_extensions(self, alloc, file, &mut scope, &tree.statements)
     }
-}
-
-/// Adds what one statement of a file declares, as declared by the file with the number 0.
-pub fn add_statement_names<'a>(
-    table: &mut Declarations,
-    alloc: Global,
-    scope: &mut Vec<&'a str>,
-    statement: &'a FileStatement,
-) -> Result<(), AllocError>
-    ensures scope { OnOk result (name_texts scope.new.items ≡ name_texts scope.old.items) }
-    ensures adds { OnOk result ((name : Text) → declared_as table.new name
-        ≡ declared_as table.old name ++ declared_by_statement name 0
-        (name_texts scope.old.items) (statement_syntax statement.now)) }
-{
-    add_declared(table, alloc, 0, scope, statement)?;
-    add_generated_in(table, alloc, 0, scope, statement)?;
-    add_extensions_in(table, alloc, 0, scope, statement)
 }
 
 /// Adds each message and each enum that statements of a file declare.

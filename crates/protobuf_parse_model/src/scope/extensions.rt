@@ -36,7 +36,7 @@ pub fn add_extensions<'a>(
 }
 
 /// Adds those of a statement of a file.
-pub fn add_extensions_in<'a>(
+fn add_extensions_in<'a>(
     table: &mut Declarations,
     alloc: Global,
     file: u32,

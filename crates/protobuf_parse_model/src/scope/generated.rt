@@ -42,7 +42,7 @@ pub fn add_generated<'a>(
 }
 
 /// Adds those of a statement of a file.
-pub fn add_generated_in<'a>(
+fn add_generated_in<'a>(
     table: &mut Declarations,
     alloc: Global,
     file: u32,
