@@ -1,17 +1,12 @@
 -- Names of which none stands among those before it: one alone, and those whose keys differ.
-use Rattle.std.proofs.Common.{◌≡◌, ℕ, ◌<◌, List, [], ◌∷◌, ◌++◌, false, map, length, get_or}
+use Rattle.std.proofs.Common.{◌≡◌, ℕ, ◌<◌, List, [], ◌∷◌, ◌++◌, false, map, length}
 use Rattle.std.proofs.Common.{refl, sym, ap, subst, ◌∙◌, append_assoc, arith, inl, inr}
 use Rattle.std.proofs.Math.Dec.{eqb}
 use Rattle.std.specs.Prelude.{bytes_eq}
 use Rattle.std.specs.List.{IsDistinct, AllByRecursion}
-use Rattle.std.specs.List.Sorted.{IsStrictlyIncreasing, IsPermutation}
 use Rattle.std.proofs.lemmas.Bool.{cases_Bool, or_from, eqb-false}
-use Rattle.std.proofs.lemmas.Bool.Decides.{nat_tests}
 use Rattle.std.proofs.lemmas.Slice.Eq.{bytes_eq-Decides}
-use Rattle.std.proofs.lemmas.Map.Keys.{IsDistinct-head, IsDistinct-tail, IsDistinct-from_apart}
-use Rattle.std.proofs.lemmas.Map.Keys.{IsDistinct-IsPermutation, below_from_sorted}
-use Rattle.std.proofs.lemmas.Map.Keys.{sorted_from_strictly_increasing}
-use Rattle.std.proofs.lemmas.List.Sorted.{IsPermutation-sym}
+use Rattle.std.proofs.lemmas.Map.Keys.{IsDistinct-head, IsDistinct-tail}
 use Rattle.protobuf_parse_model.specs.declared.error.ElabErrorKind.TheVariants.{DuplicateName}
 use Rattle.protobuf_parse_model.specs.Descriptors.{Text}
 use Rattle.protobuf_parse_model.specs.Duplicates.{NamedAt, stands_in, fault_when, repeats_after}
@@ -29,9 +24,6 @@ few_unlike name (x ∷ []) few (a ∷ b ∷ declared) h = absurd cc
 few_unlike name (x ∷ y ∷ items) few (a ∷ b ∷ declared) h = absurd (omega arith)
 
 -- ---- keys that differ
-
-lt_apart : (a b : ℕ) → a < b → eqb a b ≡ false
-lt_apart a b h = grind (arith, nat_tests)
 
 texts_differ : (key : Text → ℕ) (a b : Text) → eqb (key a) (key b) ≡ false → bytes_eq a b ≡ false
 texts_differ key a b h =
@@ -66,27 +58,14 @@ none_again key before (x ∷ xs) h =
     (subst (λ ts. IsDistinct eqb (map key ts))
     (sym (append_assoc before (x.name ∷ []) (names_of xs))) h)
 
--- ---- keys that ascend once they are sorted
-
-eqb_comm : (a b : ℕ) → eqb a b ≡ eqb b a
-eqb_comm a b = grind (arith, nat_tests)
-
-apart : (sorted : List ℕ) → IsStrictlyIncreasing sorted → IsDistinct eqb sorted
-apart sorted h =
-    IsDistinct-from_apart eqb sorted (λ i j d l m. lt_apart (get_or sorted i d) (get_or sorted j d)
-    (below_from_sorted sorted i j d (sorted_from_strictly_increasing sorted h) l m))
-
 keys_are : {A : Type 0} (key : Text → ℕ) (name : A → Text) (items : List A)
     → map (λ x. key (name x)) items ≡ map key (map name items)
 keys_are key name [] = refl
 keys_are key name (x ∷ items) = ap (λ keys. key (name x) ∷ keys) (keys_are key name items)
 
-pub unlike : {A : Type 0} (key : Text → ℕ) (name : A → Text) (items : List A)
-    (keys sorted : List ℕ) → keys ≡ map (λ x. key (name x)) items → IsPermutation keys sorted
-    → IsStrictlyIncreasing sorted → (declared : List NamedAt)
+pub unlike : {A : Type 0} (key : Text → ℕ) (name : A → Text) (items : List A) (keys : List ℕ)
+    → keys ≡ map (λ x. key (name x)) items → IsDistinct eqb keys → (declared : List NamedAt)
     → map name items ≡ names_of declared → duplicates declared ≡ []
-unlike key name items keys sorted e moved ascending declared named =
+unlike key name items keys e apart declared named =
     none_again key [] declared
-    (subst (IsDistinct eqb) (e ∙ keys_are key name items ∙ ap (map key) named)
-    (IsDistinct-IsPermutation eqb eqb_comm sorted keys (IsPermutation-sym keys sorted moved)
-    (apart sorted ascending)))
+    (subst (IsDistinct eqb) (e ∙ keys_are key name items ∙ ap (map key) named) apart)

@@ -1,4 +1,6 @@
 pub mod Blaming
+pub mod Ascending
+pub mod Slots
 pub mod OrTests
 pub mod TreeViews
 pub mod Scopes

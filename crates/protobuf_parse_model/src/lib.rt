@@ -1,6 +1,7 @@
 //! Descriptors, what the names that files declare mean, and what may be wrong in a file.
 #![tactic(auto)]
 
+mod apart;
 mod customs;
 mod declared_at;
 mod declaring;
@@ -10,6 +11,7 @@ mod linking;
 mod made_names;
 mod scope;
 
+pub use apart::are_apart;
 pub use customs::{Construct, CustomOptions, WithoutCustoms, path_text};
 pub use declared_at::last_declared;
 pub use declaring::declaring_files;

@@ -12,7 +12,7 @@ use Rattle.std.proofs.lemmas.List.{map-append, get_or-set_same, get_or-set_other
 use Rattle.std.proofs.lemmas.List.{take_all}
 use Rattle.protobuf_parse_rules.specs.Crowds.{Counts, how_many, is_crowded, one_if, slot_among}
 use Rattle.protobuf_parse_rules.specs.Crowds.{slots_of}
-use Rattle.protobuf_parse_rules.proofs.Keying.{eqb_comm}
+use Rattle.protobuf_parse_model.proofs.Ascending.{eqb_comm}
 use Rattle.protobuf_parse_rules.proofs.Lone.{eqb_same, few, how_many-append}
 
 other_number : (a b : ℕ) → eqb a b ≡ false → a ≢ b
@@ -88,7 +88,7 @@ few_of a b n le is small = omega (arith, le, is, small)
 -- a part of so many is below them
 pub part_within : (part n : ℕ) → part < 2 ^ 32 → 0 < n → part * n / 2 ^ 32 < n
 part_within part n small some =
-    (div-lt_iff_lt-mul {2 ^ 32} {part * n} {n} (omega arith)).1
+    (div-lt_iff_lt-mul {k = 2 ^ 32} {x = part * n} {y = n} (omega arith)).1
     (subst (λ m. part * n < m) (mul_comm (2 ^ 32) n) (mul-lt-mul_of_pos_right small some))
 
 upper_half : (k spread : ℕ) → k * spread % 2 ^ 64 / 2 ^ 32 < 2 ^ 32
@@ -98,6 +98,9 @@ pub slot_within : (spread n k : ℕ) → 0 < n → slot_among spread n k < n
 slot_within spread n k some =
     part_within (k * spread % 2 ^ 64 / 2 ^ 32) n (upper_half k spread) some
 
+abbrev slot_in : ℕ → List ℕ → ℕ → ℕ
+slot_in spread counts = slot_among spread (length counts)
+
 -- Where no number that shares its slot stands twice, none does.
 pub crowds_apart : (spread : ℕ) (keys counts : List ℕ) → 0 < length counts
     → Counts spread keys counts
@@ -105,19 +108,16 @@ pub crowds_apart : (spread : ℕ) (keys counts : List ℕ) → 0 < length counts
 crowds_apart spread keys counts some counted apart =
     distinct keys (λ k. at k (is_crowded spread counts k) refl)
   where
-    abbrev slot : ℕ → ℕ
-    slot = slot_among spread (length counts)
-
     at : (k : ℕ) (b : Bool) → is_crowded spread counts k ≡ b → how_many k keys ≤ 1
     at k true crowded =
         let same = kept (is_crowded spread counts) k keys crowded in
         let once = few (filter (is_crowded spread counts) keys) apart k in
         omega (arith, same, once)
     at k false lone =
-        few_of (how_many k keys) (how_many (slot k) (slots_of spread (length counts) keys))
-        (slice_index_or counts (slot k) 0) (by_slot slot k keys)
-        (counted (slot k) (slot_within spread (length counts) k some))
-        (least (slice_index_or counts (slot k) 0) lone)
+        few_of (how_many k keys) (how_many (slot_in spread counts k) (slots_of spread (length counts) keys))
+        (slice_index_or counts (slot_in spread counts k) 0) (by_slot (slot_in spread counts) k keys)
+        (counted (slot_in spread counts k) (slot_within spread (length counts) k some))
+        (least (slice_index_or counts (slot_in spread counts k) 0) lone)
 
 -- ---- one number more
 
@@ -143,33 +143,30 @@ pub counted_more : (spread : ℕ) (keys counts : List ℕ) (k q : ℕ)
     → get_or counts q 0 < 2 → Counts spread keys counts
     → Counts spread (keys ++ k ∷ []) (set counts q (get_or counts q 0 + 1))
 counted_more spread keys counts k q is within small counted p lt =
-    at (eqb (slot k) p) refl
+    at (eqb (slot_in spread counts k) p) refl
     ∙ ap (λ n. min 2 (how_many p (slots_of spread n (keys ++ k ∷ []))))
     (sym (length-set counts q (get_or counts q 0 + 1)))
   where
-    abbrev slot : ℕ → ℕ
-    slot = slot_among spread (length counts)
-
     there : p < length counts
     there = subst (λ n. p < n) (length-set counts q (get_or counts q 0 + 1)) lt
 
-    at : (b : Bool) → eqb (slot k) p ≡ b
+    at : (b : Bool) → eqb (slot_in spread counts k) p ≡ b
         → get_or (set counts q (get_or counts q 0 + 1)) p 0
-        ≡ min 2 (how_many p (map slot (keys ++ k ∷ [])))
+        ≡ min 2 (how_many p (map (slot_in spread counts) (keys ++ k ∷ [])))
     at true same =
-        let here : p ≡ q = sym (eqb-true (slot k) p same) ∙ sym is in
+        let here : p ≡ q = sym (eqb-true (slot_in spread counts k) p same) ∙ sym is in
         ap (λ x. get_or (set counts q (get_or counts q 0 + 1)) x 0) here
         ∙ get_or-set_same counts q (get_or counts q 0 + 1) 0 within
-        ∙ more_of (get_or counts q 0) (how_many q (map slot keys)) (counted q within) small
-        ∙ ap (λ x. min 2 (how_many x (map slot keys) + 1)) (sym here)
-        ∙ ap (λ b. min 2 (how_many p (map slot keys) + one_if b)) (sym same)
-        ∙ ap (min 2) (sym (more_there slot k p keys))
+        ∙ more_of (get_or counts q 0) (how_many q (map (slot_in spread counts) keys)) (counted q within) small
+        ∙ ap (λ x. min 2 (how_many x (map (slot_in spread counts) keys) + 1)) (sym here)
+        ∙ ap (λ b. min 2 (how_many p (map (slot_in spread counts) keys) + one_if b)) (sym same)
+        ∙ ap (min 2) (sym (more_there (slot_in spread counts) k p keys))
     at false other =
-        let apart : p ≢ q = λ here. other_number (slot k) p other (sym is ∙ sym here) in
+        let apart : p ≢ q = λ here. other_number (slot_in spread counts k) p other (sym is ∙ sym here) in
         get_or-set_other counts q p (get_or counts q 0 + 1) 0 apart
-        ∙ no_other_of (get_or counts p 0) (how_many p (map slot keys)) (counted p there)
-        ∙ ap (λ b. min 2 (how_many p (map slot keys) + one_if b)) (sym other)
-        ∙ ap (min 2) (sym (more_there slot k p keys))
+        ∙ no_other_of (get_or counts p 0) (how_many p (map (slot_in spread counts) keys)) (counted p there)
+        ∙ ap (λ b. min 2 (how_many p (map (slot_in spread counts) keys) + one_if b)) (sym other)
+        ∙ ap (min 2) (sym (more_there (slot_in spread counts) k p keys))
 
 -- or to have two and more already
 pub counted_enough : (spread : ℕ) (keys counts : List ℕ) (k q : ℕ)
@@ -177,23 +174,20 @@ pub counted_enough : (spread : ℕ) (keys counts : List ℕ) (k q : ℕ)
     → q < length counts → 2 ≤ get_or counts q 0 → Counts spread keys counts
     → Counts spread (keys ++ k ∷ []) counts
 counted_enough spread keys counts k q is within large counted p lt =
-    at (eqb (slot k) p) refl
+    at (eqb (slot_in spread counts k) p) refl
   where
-    abbrev slot : ℕ → ℕ
-    slot = slot_among spread (length counts)
-
-    at : (b : Bool) → eqb (slot k) p ≡ b
-        → get_or counts p 0 ≡ min 2 (how_many p (map slot (keys ++ k ∷ [])))
+    at : (b : Bool) → eqb (slot_in spread counts k) p ≡ b
+        → get_or counts p 0 ≡ min 2 (how_many p (map (slot_in spread counts) (keys ++ k ∷ [])))
     at true same =
-        let here : q ≡ p = is ∙ eqb-true (slot k) p same in
-        no_more_of (get_or counts p 0) (how_many p (map slot keys))
+        let here : q ≡ p = is ∙ eqb-true (slot_in spread counts k) p same in
+        no_more_of (get_or counts p 0) (how_many p (map (slot_in spread counts) keys))
         (counted p lt) (subst (λ x. 2 ≤ get_or counts x 0) here large)
-        ∙ ap (λ b. min 2 (how_many p (map slot keys) + one_if b)) (sym same)
-        ∙ ap (min 2) (sym (more_there slot k p keys))
+        ∙ ap (λ b. min 2 (how_many p (map (slot_in spread counts) keys) + one_if b)) (sym same)
+        ∙ ap (min 2) (sym (more_there (slot_in spread counts) k p keys))
     at false other =
-        no_other_of (get_or counts p 0) (how_many p (map slot keys)) (counted p lt)
-        ∙ ap (λ b. min 2 (how_many p (map slot keys) + one_if b)) (sym other)
-        ∙ ap (min 2) (sym (more_there slot k p keys))
+        no_other_of (get_or counts p 0) (how_many p (map (slot_in spread counts) keys)) (counted p lt)
+        ∙ ap (λ b. min 2 (how_many p (map (slot_in spread counts) keys) + one_if b)) (sym other)
+        ∙ ap (min 2) (sym (more_there (slot_in spread counts) k p keys))
 
 -- a list that is written back whole
 pub written_back : (items new : List ℕ) (n : ℕ) → length new ≡ length items → n ≡ length items

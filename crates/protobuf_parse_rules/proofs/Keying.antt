@@ -1,19 +1,14 @@
 -- Claims whose keys differ.
-use Rattle.std.proofs.Common.{◌≡◌, ℕ, ◌<◌, false, cond, List, [], ◌∷◌, ◌++◌, map}
-use Rattle.std.proofs.Common.{refl, sym, ap, subst, ◌∙◌, append_assoc, append-nil, arith, inl, inr}
-use Rattle.std.proofs.Common.{get_or}
+use Rattle.std.proofs.Common.{◌≡◌, ℕ, false, cond, List, [], ◌∷◌, ◌++◌, map}
+use Rattle.std.proofs.Common.{refl, sym, ap, subst, ◌∙◌, append_assoc, append-nil, inl, inr}
 use Rattle.std.proofs.Common.{Some, None}
 use Rattle.std.proofs.Math.Dec.{eqb}
 use Rattle.std.specs.Prelude.{option_to_list}
 use Rattle.std.specs.List.{IsDistinct, AllByRecursion, flat_map}
-use Rattle.std.specs.List.Sorted.{IsStrictlyIncreasing, IsPermutation}
 use Rattle.std.proofs.lemmas.Bool.{cases_Bool, eqb-false}
-use Rattle.std.proofs.lemmas.Bool.Decides.{nat_tests}
-use Rattle.std.proofs.lemmas.Map.Keys.{IsDistinct-head, IsDistinct-tail, IsDistinct-from_apart}
-use Rattle.std.proofs.lemmas.Map.Keys.{IsDistinct-IsPermutation, below_from_sorted}
-use Rattle.std.proofs.lemmas.Map.Keys.{sorted_from_strictly_increasing}
+use Rattle.std.proofs.lemmas.Map.Keys.{IsDistinct-head, IsDistinct-tail}
 use Rattle.std.proofs.lemmas.List.{map-append}
-use Rattle.std.proofs.lemmas.List.Sorted.{IsPermutation-sym}
+use Rattle.protobuf_parse_model.specs.ByHash.{hash_of}
 use Rattle.protobuf_parse_model.specs.Descriptors.{Text, FieldDescriptor}
 use Rattle.protobuf_parse_rules.specs.Claims.{Claim, Rules, Thing, conflict, conflicts}
 use Rattle.protobuf_parse_rules.specs.Claims.{first_claim, same_thing}
@@ -24,25 +19,6 @@ use Rattle.protobuf_parse_rules.specs.Numbers.{field_claims}
 use Rattle.protobuf_parse_rules.specs.Places.{Place, extensions_of, fields_of}
 use Rattle.protobuf_parse_rules.specs.Rules.{Breach}
 use Rattle.protobuf_parse_rules.proofs.Claiming.{thing_is}
-
--- ---- numbers that ascend once they are sorted
-
-lt_apart : (a b : ℕ) → a < b → eqb a b ≡ false
-lt_apart a b h = grind (arith, nat_tests)
-
-pub eqb_comm : (a b : ℕ) → eqb a b ≡ eqb b a
-eqb_comm a b = grind (arith, nat_tests)
-
-apart : (sorted : List ℕ) → IsStrictlyIncreasing sorted → IsDistinct eqb sorted
-apart sorted h =
-    IsDistinct-from_apart eqb sorted (λ i j d l m. lt_apart (get_or sorted i d) (get_or sorted j d)
-    (below_from_sorted sorted i j d (sorted_from_strictly_increasing sorted h) l m))
-
-pub apart_sorted : (keys sorted : List ℕ) → IsPermutation keys sorted
-    → IsStrictlyIncreasing sorted → IsDistinct eqb keys
-apart_sorted keys sorted moved ascending =
-    IsDistinct-IsPermutation eqb eqb_comm sorted keys (IsPermutation-sym keys sorted moved)
-    (apart sorted ascending)
 
 -- ---- no claim of what is claimed already
 
@@ -131,6 +107,19 @@ pub no_text_told : {X : Type 0} (rules : Rules) (told : List Breach) (claim : X 
     → IsDistinct eqb keys → told ≡ told ++ conflicts rules [] (map claim xs)
 no_text_told rules told claim xs keys is apart =
     nothing_claimed name_text_key by_name rules told claim xs keys is apart
+
+-- the hash of a thing's name
+abbrev name_hash : Claim → ℕ
+name_hash c = hash_of c.thing.name
+
+by_hash : (c d : Claim) → c.thing ≡ d.thing → name_hash c ≡ name_hash d
+by_hash c d e = ap (λ (t : Thing). hash_of t.name) e
+
+pub no_hash_told : {X : Type 0} (rules : Rules) (told : List Breach) (claim : X → Claim)
+    (xs : List X) (keys : List ℕ) → keys ≡ map (λ (x : X). name_hash (claim x)) xs
+    → IsDistinct eqb keys → told ≡ told ++ conflicts rules [] (map claim xs)
+no_hash_told rules told claim xs keys is apart =
+    nothing_claimed name_hash by_hash rules told claim xs keys is apart
 
 -- ---- the numbers that a place claims
 

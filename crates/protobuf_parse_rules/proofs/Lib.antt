@@ -4,7 +4,6 @@ pub mod Linking
 pub mod Placing
 pub mod Claiming
 pub mod Keying
-pub mod Slots
 pub mod Naming
 pub mod Packages
 pub mod Declaring

@@ -27,7 +27,7 @@ use Rattle.protobuf_parse_rules.specs.declared.kind.NamedKind.{NamedKind}
 use Rattle.protobuf_parse_rules.specs.declared.kind.NamedKind.TheVariants as kind
 use Rattle.protobuf_parse_rules.proofs.Claiming.{site_of_claim, thing_is}
 use Rattle.protobuf_parse_rules.proofs.Counting.{one_if}
-use Rattle.protobuf_parse_rules.proofs.Keying.{eqb_comm}
+use Rattle.protobuf_parse_model.proofs.Ascending.{eqb_comm}
 
 -- ---- how often a number stands in a list
 

@@ -19,10 +19,7 @@ use Rattle.protobuf_parse_rules.specs.Places.{of_message}
 use Rattle.protobuf_parse_rules.specs.declared.kind.NamedKind.{NamedKind}
 use Rattle.protobuf_parse_rules.specs.declared.kind.NamedKind.TheVariants as kind
 
--- what the hasher of std's maps makes of a name's bytes, and of these and a number
-abbrev pub hash_of : Text → ℕ
-hash_of name = finish (write initial name)
-
+-- what the hasher of std's maps makes of a name's bytes and of a number
 abbrev pub key_of : ℤ → Text → ℕ
 key_of number name = finish (fold write (write initial name) (fed.i32 number))
 

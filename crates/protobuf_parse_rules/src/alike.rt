@@ -16,11 +16,13 @@ ghost use Rattle.protobuf_parse_rules.specs.Places.{body_view, content_view, fie
 ghost use Rattle.protobuf_parse_rules.specs.Rules.{breaches_told};
 
 use crate::claims::{Held, Holders, Thing, check_claim};
-use crate::keys::{NO_TEXT, are_apart, plain_key};
+use crate::keys::{NO_TEXT, plain_key};
 use crate::places::Body;
 use crate::violation::Violation;
 use protobuf_parse_base::text::camel_case;
-use protobuf_parse_model::{EnumDescriptorProto, EnumValueDescriptorProto, FieldDescriptorProto};
+use protobuf_parse_model::{
+    EnumDescriptorProto, EnumValueDescriptorProto, FieldDescriptorProto, are_apart,
+};
 use std::alloc::{AllocError, Global};
 use std::collections::BTreeMap;
 

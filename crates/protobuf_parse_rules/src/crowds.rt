@@ -6,11 +6,12 @@ ghost use Rattle.std.specs.List.{IsDistinct};
 ghost use Rattle.std.proofs.Math.Dec.{eqb};
 ghost use Rattle.protobuf_parse_rules.specs.Crowds.{Counts, is_crowded, slot_among};
 
-use crate::keys::are_apart;
+use protobuf_parse_model::are_apart;
 use std::alloc::{AllocError, Global};
 
 /// Odd numbers, by which keys get their slots.
 const FIRST_SPREAD: u64 = 0x9e37_79b9_7f4a_7c15;
+
 const SECOND_SPREAD: u64 = 0xc2b2_ae3d_27d4_eb4f;
 
 /// More slots than the lower half of a key counts are not asked for.
@@ -42,12 +43,7 @@ fn crowd_of(alloc: Global, spread: u64, keys: &[u64]) -> Result<Vec<u64>, AllocE
 }
 
 /// How many keys have each of so many slots, where two stand for more.
-fn counts_of(
-    alloc: Global,
-    spread: u64,
-    keys: &[u64],
-    slots: usize,
-) -> Result<Vec<u8>, AllocError>
+fn counts_of(alloc: Global, spread: u64, keys: &[u64], slots: usize) -> Result<Vec<u8>, AllocError>
     requires some { 0 < slots }
     requires few { slots < 2 ^ 32 }
     ensures len { IfOk result (λ counts. length counts.items ≡ slots) }

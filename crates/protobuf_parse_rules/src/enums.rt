@@ -22,13 +22,13 @@ use crate::alike::check_values_alike;
 use crate::claims::{Held, Holders, Thing, check_claim};
 use crate::enum_bars::{EnumBars, check_ranges, check_reserved, enum_bars_of};
 use crate::finding::{Finding, found, found_if};
-use crate::keys::{are_apart, key_of};
+use crate::keys::key_of;
 use crate::places::Body;
 use crate::repeats::check_repeats;
 use crate::rule::Rule;
 use crate::tell::tell_each;
 use crate::violation::Violation;
-use protobuf_parse_model::{EnumDescriptorProto, EnumValueDescriptorProto};
+use protobuf_parse_model::{EnumDescriptorProto, EnumValueDescriptorProto, are_apart};
 use std::alloc::{AllocError, Global};
 use std::collections::BTreeMap;
 

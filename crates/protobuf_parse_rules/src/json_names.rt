@@ -1,17 +1,16 @@
 //! Names in JSON, and which fields have them.
 
 ghost use Rattle.std.specs.Prelude.{◌≡◌, ◌++◌, [], ◌∷◌, map, IfOk, OnOk, string_bytes};
+ghost use Rattle.protobuf_parse_model.specs.ByHash.{hash_of};
 ghost use Rattle.protobuf_parse_model.specs.Descriptors.{FieldDescriptor, field_view};
 ghost use Rattle.protobuf_parse_rules.specs.Claims.{Claims, conflicts};
 ghost use Rattle.protobuf_parse_rules.specs.JsonNames.{json_claim, json_rule};
-ghost use Rattle.protobuf_parse_rules.specs.Keys.{hash_of};
 ghost use Rattle.protobuf_parse_rules.specs.Rules.{breaches_told};
 
 use crate::claims::{Held, Holders, Thing, check_claim};
-use crate::keys::{are_apart, hash_of};
 use crate::places::Body;
 use crate::violation::Violation;
-use protobuf_parse_model::FieldDescriptorProto;
+use protobuf_parse_model::{FieldDescriptorProto, are_apart, hash_of};
 use std::alloc::{AllocError, Global};
 use std::collections::BTreeMap;
 

@@ -2,28 +2,16 @@
 //! share a key. Only where some do, or where a thing is claimed twice, the claims are gone through
 //! one by one.
 
-ghost use Rattle.std.specs.Prelude.{◌≡◌, ◌<◌, ◌%◌, true};
-ghost use Rattle.std.specs.Prelude.{encode_utf8_all};
-ghost use Rattle.std.specs.List.{IsDistinct, fold};
-ghost use Rattle.std.specs.List.Sorted.{IsStrictlyIncreasing};
-ghost use Rattle.std.proofs.Math.Dec.{eqb};
+ghost use Rattle.std.specs.Prelude.{◌≡◌, encode_utf8_all};
+ghost use Rattle.std.specs.List.{fold};
 ghost use Rattle.protobuf_parse_rules.specs.Alike.{plain};
 ghost use Rattle.protobuf_parse_rules.specs.Keys as spec;
-ghost use Rattle.protobuf_parse_rules.specs.Keys.{hash_of, key_of};
+ghost use Rattle.protobuf_parse_rules.specs.Keys.{key_of};
 ghost use Rattle.protobuf_parse_rules.specs.Known.{keyed};
 
 use std::hash::{FoldHasher, Hasher};
 
-/// The hash of a name, a multiplication for each sixteen bytes.
-pub fn hash_of(name: &str) -> u64
-    ensures { result ≡ hash_of name.now }
-{
-    let mut hasher = FoldHasher::default();
-    hasher.write(name.as_bytes());
-    hasher.finish()
-}
-
-/// The hash of a name and of a number.
+/// The hash of a name, a multiplication for each sixteen bytes, and of a number.
 pub fn key_of(number: i32, name: &str) -> u64
     ensures { result ≡ key_of number name.now }
 {
@@ -113,64 +101,4 @@ fn mixed(key: u64, byte: u8) -> u64
     ensures { result ≡ spec.mixed key byte }
 {
     (key ^ byte as u64).wrapping_mul(0x100_0000_01b3)
-}
-
-/// More keys than this are sorted, so that none take quadratic time.
-const MOST_UNSORTED: usize = 64;
-
-const SLOTS: usize = 256;
-
-/// Whether no key stands twice.
-pub fn are_apart(keys: Vec<u64>) -> bool
-    ensures { result ≡ true → IsDistinct eqb keys.items }
-{
-    if keys.len() > MOST_UNSORTED {
-        return are_apart_once_sorted(keys);
-    }
-    each_is_new(&keys)
-}
-
-/// The same where there are few. A key is compared with those before it only where one of them has
-/// its slot: that spared 7 million instructions for 4,000 messages of 25 fields.
-fn each_is_new(keys: &[u64]) -> bool
-    ensures { result ≡ true → IsDistinct eqb keys.now }
-{
-    let mut taken = [false; SLOTS];
-    for i in 0..keys.len() {
-        let key = keys[i];
-        let slot = slot_of(key);
-        if taken[slot] && keys[..i].contains(&key) {
-            return false;
-        }
-        taken[slot] = true;
-    }
-    true
-}
-
-fn slot_of(key: u64) -> usize
-    ensures value { result ≡ key % 256 }
-    ensures within { result < SLOTS }
-{
-    (key % 256) as usize
-}
-
-/// The same where there are many.
-fn are_apart_once_sorted(keys: Vec<u64>) -> bool
-    ensures { result ≡ true → IsDistinct eqb keys.items }
-{
-    let mut sorted = keys;
-    sorted.sort_unstable();
-    is_ascending(&sorted)
-}
-
-/// Whether each number is larger than the one before it.
-fn is_ascending(numbers: &[u64]) -> bool
-    ensures { result ≡ true → IsStrictlyIncreasing numbers.now }
-{
-    for i in 1..numbers.len() {
-        if numbers[i - 1] >= numbers[i] {
-            return false;
-        }
-    }
-    true
 }

@@ -9,9 +9,10 @@ ghost use Rattle.protobuf_parse_rules.specs.Rules.{breaches_told};
 
 use crate::claims::{Held, Holder, Holders, Thing, check_claim};
 use crate::finding::Spot;
-use crate::keys::{NO_TEXT, are_apart, text_key};
+use crate::keys::{NO_TEXT, text_key};
 use crate::rule::Rule;
 use crate::violation::Violation;
+use protobuf_parse_model::are_apart;
 use std::alloc::{AllocError, Global};
 use std::collections::BTreeMap;
 

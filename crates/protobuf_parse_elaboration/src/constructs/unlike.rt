@@ -1,12 +1,11 @@
 //! A quick test that names differ.
 
 ghost use Rattle.std.specs.Prelude.{◌≡◌, List, map, true, IfOk, []};
-ghost use Rattle.std.specs.List.Sorted.{IsStrictlyIncreasing};
 ghost use Rattle.protobuf_parse_model.specs.ByHash.{hash_of};
 ghost use Rattle.protobuf_parse_model.specs.Duplicates.{NamedAt, duplicates};
 
 use crate::constructs::names::Named;
-use protobuf_parse_model::hash_of;
+use protobuf_parse_model::{are_apart, hash_of};
 use std::alloc::{AllocError, Global};
 
 /// Whether the items have names of different hashes, so that no name stands among those before it.
@@ -30,9 +29,8 @@ fn have_unlike_hashes<T: Named>(alloc: Global, items: &[T]) -> Result<bool, Allo
         → map T.name_of items.now ≡ map (λ (d : NamedAt). d.name) declared
         → duplicates declared ≡ []) }
 {
-    let mut hashes = hashes_of(alloc, items)?;
-    hashes.sort_unstable();
-    Ok(is_ascending(&hashes))
+    let hashes = hashes_of(alloc, items)?;
+    Ok(are_apart(hashes))
 }
 
 /// The hashes of the names of these, in their order.
@@ -45,16 +43,4 @@ fn hashes_of<T: Named>(alloc: Global, items: &[T]) -> Result<Vec<u64>, AllocErro
         hashes.push(hash_of(item.name()))?;
     }
     Ok(hashes)
-}
-
-/// Whether each number is larger than the one before it.
-fn is_ascending(numbers: &[u64]) -> bool
-    ensures { result ≡ true → IsStrictlyIncreasing numbers.now }
-{
-    for i in 1..numbers.len() {
-        if numbers[i - 1] >= numbers[i] {
-            return false;
-        }
-    }
-    true
 }

@@ -1,8 +1,8 @@
 -- Keys that ascend once they are sorted differ.
 use Rattle.std.proofs.Common.{subst}
 use Rattle.std.specs.List.Sorted.{IsStrictlyIncreasing}
-use Rattle.protobuf_parse_rules.proofs.Keying.{apart_sorted}
-use Rattle.protobuf_parse_rules.proofs.keys.are_apart_once_sorted.Goals as goal
+use Rattle.protobuf_parse_model.proofs.Ascending.{apart_sorted}
+use Rattle.protobuf_parse_model.proofs.apart.are_apart_once_sorted.Goals as goal
 
 pub returns : goal.returns
 returns c = λ u.

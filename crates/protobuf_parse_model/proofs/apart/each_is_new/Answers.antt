@@ -3,12 +3,12 @@ use Rattle.std.proofs.Common.{below_more, length-set}
 use Rattle.std.proofs.Math.Dec.{eqb}
 use Rattle.std.proofs.lemmas.List.{get_or_default}
 use Rattle.std.proofs.lemmas.Map.Keys.{IsDistinct-from_apart}
-use Rattle.protobuf_parse_rules.proofs.Slots.{DifferAt, SlotsTaken, differ_by_search}
-use Rattle.protobuf_parse_rules.proofs.Slots.{differ_by_slot}
-use Rattle.protobuf_parse_rules.proofs.Slots.{slots_more}
-use Rattle.protobuf_parse_rules.proofs.keys.each_is_new.Goals as goal
-use Rattle.protobuf_parse_rules.proofs.keys.each_is_new.Goals.{else-taken-slot-via-else-taken-slot}
-use Rattle.protobuf_parse_rules.proofs.keys.each_is_new.Goals.{else-taken-slot-via-then-taken-slot+else-contains}
+use Rattle.protobuf_parse_model.proofs.Slots.{DifferAt, SlotsTaken, differ_by_search}
+use Rattle.protobuf_parse_model.proofs.Slots.{differ_by_slot}
+use Rattle.protobuf_parse_model.proofs.Slots.{slots_more}
+use Rattle.protobuf_parse_model.proofs.apart.each_is_new.Goals as goal
+use Rattle.protobuf_parse_model.proofs.apart.each_is_new.Goals.{else-taken-slot-via-else-taken-slot}
+use Rattle.protobuf_parse_model.proofs.apart.each_is_new.Goals.{else-taken-slot-via-then-taken-slot+else-contains}
 
 pub loop-i-preserved : goal.loop-i-preserved
 loop-i-preserved c =
