@@ -4,12 +4,11 @@ mod hints;
 mod known;
 
 use crate::diagnostic::Diagnostic;
+use crate::firsts::Firsts;
 use crate::kinds::values_of_option;
 use crate::loading::told_at;
 use crate::meaning::hints::{Hints, declared_twice};
 use crate::meaning::known::{Known, Sight, known_files};
-use crate::outline::Outline;
-use crate::places::{Firsts, last_declared};
 use crate::sources::{Sources, Trees};
 use crate::syntax::Sentence;
 use protobuf_parse_model::{ElabError, ElabErrorKind};
@@ -142,7 +141,6 @@ fn plain_diagnostic(
 #[derive(Drop)]
 struct Subject<'s, 'k, 't, 'a> {
     sight: Sight<'s, 'k, 't, 'a>,
-    own: &'k Outline<'t>,
     firsts: Firsts<'k, 't>,
 }
 
@@ -160,7 +158,6 @@ impl<'s, 'k, 't, 'a> Subject<'s, 'k, 't, 'a> {
         };
         Ok(Some(Subject {
             sight,
-            own,
             firsts: Firsts::of(alloc, own)?,
         }))
     }
@@ -173,11 +170,10 @@ impl<'s, 'k, 't, 'a> Subject<'s, 'k, 't, 'a> {
         error: &'e ElabError,
         hints: &mut Hints<'e>,
     ) -> Result<Diagnostic, AllocError> {
-        let declared = last_declared(self.own, error);
         let found = match error.kind {
             ElabErrorKind::DuplicateName => first_one(alloc, &self.firsts, error)?,
             ElabErrorKind::TypeDeclaredTwice | ElabErrorKind::ExtensionDeclaredTwice => {
-                declared_twice(alloc, &self.sight, error, declared)?
+                declared_twice(alloc, &self.sight, error)?
             }
             _ => hints.hint(alloc, &self.sight, error)?,
         };
@@ -186,8 +182,13 @@ impl<'s, 'k, 't, 'a> Subject<'s, 'k, 't, 'a> {
             message,
             help: found.or(help),
         };
-        let place = Some(declared.unwrap_or(error.place));
-        told_at(alloc, meaning_code(error.kind), origin, place, sentence)
+        told_at(
+            alloc,
+            meaning_code(error.kind),
+            origin,
+            Some(error.place),
+            sentence,
+        )
     }
 }
 

@@ -20,7 +20,7 @@ pub mod Reordering
 pub mod Faulty
 pub mod FirstFaults
 pub mod Repeating
-pub mod Settling
+pub mod Elaborating
 pub mod Listed
 pub mod Stacks
 pub mod Taking

@@ -36,7 +36,7 @@ use Rattle.protobuf_parse_options.specs.OptionFields.{OptionScope}
 use Rattle.protobuf_parse_options.specs.OptionBytes.{known_customs, option_bytes}
 use Rattle.protobuf_parse_options.specs.WithoutOptions.{bare_file}
 use Rattle.protobuf_parse_options.proofs.BareFiles.{file-alike}
-use Rattle.protobuf_parse_run.specs.Loading.{Describes, LoadedEntry, customs_over}
+use Rattle.protobuf_parse_run.specs.Loading.{ElaboratesTo, LoadedEntry, customs_over}
 use Rattle.protobuf_parse_run.specs.Loading.{any_faulty, own_over, plain_over, report_over}
 use Rattle.protobuf_parse_run.specs.Loading.{descriptors_over, picked_descriptors, repeats_over}
 use Rattle.protobuf_parse_run.specs.Run.{Files, customs_of, is_nothing}
@@ -235,7 +235,7 @@ module _ (loaded : List LoadedEntry) (files : List FileSyntax) (reach sight : Li
       → list_any sets_custom (option_sets t) ≡ false
       → file_faults (environment seen no_customs t) t ≡ []
       → described.file_view d ≡ plain_over files sight path t
-      → Describes false loaded files reach sight path t
+      → ElaboratesTo false loaded files reach sight path t
       (Ok (record { descriptor = d; faults = faults; faulty = false }))
   none-set d faults empty none own is = record {
     faultless = all-faultless own (nothing-wrong seen reached_descriptors seen_descriptors t none);
@@ -253,7 +253,7 @@ module _ (loaded : List LoadedEntry) (files : List FileSyntax) (reach sight : Li
       → file_faults (environment seen no_customs t) t ≡ []
       → file_faults (environment seen c t) t ≡ []
       → described.file_view d ≡ file_of (environment seen c t) path t
-      → Describes false loaded files reach sight path t
+      → ElaboratesTo false loaded files reach sight path t
       (Ok (record { descriptor = d; faults = faults; faulty = false }))
   some-set c d faults empty same own none is = record {
     faultless = all-faultless own
@@ -269,7 +269,7 @@ module _ (loaded : List LoadedEntry) (files : List FileSyntax) (reach sight : Li
 
   -- the faults of the file itself
   pub own-told : (e : ElabFailure) → Blames e (file_faults (environment seen no_customs t) t)
-      → Describes false loaded files reach sight path t (Err e)
+      → ElaboratesTo false loaded files reach sight path t (Err e)
   own-told (failure.Memory) h = tt
   own-told (failure.Fault error) h =
       rw once (told-first (file_faults (environment seen no_customs t) t)
@@ -284,7 +284,7 @@ module _ (loaded : List LoadedEntry) (files : List FileSyntax) (reach sight : Li
   pub customs-told : (c : Customs) (e : ElabFailure) → c ≡ customs_over descriptors reach sight
       → file_faults (environment seen no_customs t) t ≡ []
       → Blames e (file_faults (environment seen c t) t)
-      → Describes false loaded files reach sight path t (Err e)
+      → ElaboratesTo false loaded files reach sight path t (Err e)
   customs-told c (failure.Memory) same own h = tt
   customs-told c (failure.Fault error) same own h =
       rw (once, own) (option-told seen reached_descriptors seen_descriptors t (fault_view error)

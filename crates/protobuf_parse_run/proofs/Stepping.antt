@@ -28,8 +28,8 @@ use Rattle.protobuf_parse_run.specs.Run.{Files, StandsInElab, ending_faults, env
 use Rattle.protobuf_parse_run.specs.Run.{first_read, is_nothing, own_faults, report_at}
 use Rattle.protobuf_parse_run.specs.Run.{origin_given, plain_of, Legal}
 use Rattle.protobuf_parse_run.specs.Loading.{AreKnown, FilesAreNumbered, LoadedEntry, GoesOn, Good}
-use Rattle.protobuf_parse_run.specs.Loading.{Grows, IsAdded, IsLoaded, Leaves, Settled, Settles}
-use Rattle.protobuf_parse_run.specs.Loading.{SettlesOver, Stops, Within, file_at, path_shape}
+use Rattle.protobuf_parse_run.specs.Loading.{Grows, IsAdded, IsLoaded, Leaves, Settled, ElaboratesFile}
+use Rattle.protobuf_parse_run.specs.Loading.{ElaboratesOver, Stops, Within, file_at, path_shape}
 use Rattle.protobuf_parse_run.specs.Loading.{imports_shape, named_trees}
 use Rattle.protobuf_parse_run.specs.Frames.{IsHeld, IsNew, IsOpened, IsRunning, IsSame, IsTaken}
 use Rattle.protobuf_parse_run.specs.Frames.{Joined, chain_of, done_in, imports_in, later_in}
@@ -42,7 +42,7 @@ use Rattle.protobuf_parse_run.proofs.Steps.{stops-more}
 use Rattle.protobuf_parse_run.proofs.Leaving.{stands-failing}
 use Rattle.protobuf_parse_run.proofs.Reordering.{packages-read}
 use Rattle.protobuf_parse_run.proofs.Faulty.{flags-made}
-use Rattle.protobuf_parse_run.proofs.Settling.{IsNext, agrees-made, made-alike, settled-in}
+use Rattle.protobuf_parse_run.proofs.Elaborating.{IsNext, agrees-made, made-alike, settled-in}
 use Rattle.protobuf_parse_run.proofs.Counting.{after-load, count-grows, statements-append}
 use Rattle.protobuf_parse_run.proofs.Stacks.{chain_of-push, done-import, done-other, frames-into}
 use Rattle.protobuf_parse_run.proofs.Stacks.{frames-pop, frames-push, left-import, left-joined}
@@ -371,7 +371,7 @@ module _ (gathers : Bool) (legal : Legal) (files : Files) (kept events : List Ev
       → AreKnown loaded tables log → IsTaken loaded log top → file_at (frame_path top) loaded ≡ None
       → among (frame_path top) (chain_of [] stack) ≡ false
       → length top.tree.statements.items ≤ top.next → top.height < 100
-      → SettlesOver gathers (frame_path top) (file_syntax top.tree)
+      → ElaboratesOver gathers (frame_path top) (file_syntax top.tree)
       (top.height + 1) top.read top.below.items top.public.items log loaded later after res
       → Leaves gathers legal files (r.now ++ elab (frame_path top) ∷ [])
       (path_shape files.trees (frame_path top)) later log (chain_of [] stack) res
@@ -395,10 +395,10 @@ module _ (gathers : Bool) (legal : Legal) (files : Files) (kept events : List Ev
         none = none;
         numbered = numbered;
       } in
-      let settles = settled-in gathers files loaded later tables after (frame_path top)
+      let elaborates = settled-in gathers files loaded later tables after (frame_path top)
       (file_syntax top.tree)
       (top.height + 1) top.read top.below.items top.public.items log res next over in
-      ends res settles
+      ends res elaborates
     where
       p : Text
       p = frame_path top
@@ -407,12 +407,12 @@ module _ (gathers : Bool) (legal : Legal) (files : Files) (kept events : List Ev
       t = file_syntax top.tree
 
       ends : (res : Result LoadedAs RunFault)
-          → Settles gathers files p t (top.height + 1) top.read log loaded later res
+          → ElaboratesFile gathers files p t (top.height + 1) top.read log loaded later res
           → Leaves gathers legal files (r.now ++ elab p ∷ []) (path_shape files.trees p) later log
           (chain_of [] stack) res
-      ends (Ok placed) settles =
+      ends (Ok placed) elaborates =
           let d = subst (λ (k : ℕ). IsAdded gathers files p t k top.read loaded later placed)
-          (add-one top.height) (settles none) in
+          (add-one top.height) (elaborates none) in
           let m : IsLoaded gathers files log p d.file = record {
             low = rw d.height_is (omega (arith, low));
             is = r.held.is ∙ ap Some (sym d.tree_is);
@@ -435,8 +435,8 @@ module _ (gathers : Bool) (legal : Legal) (files : Files) (kept events : List Ev
           (d.key, d.file) r.good off r.held.load r.held.is d.faultless s d.named d.height_is m
           in
           rw (d.entries, d.placed_is) g
-      ends (Err f) settles =
-          elim (settles r.held.entry r.held.found r.held.named) [
+      ends (Err f) elaborates =
+          elim (elaborates r.held.entry r.held.found r.held.named) [
             | inl stands ↦
                 let here : StandsInElab (origin_given p (first_read p files.reads))
                 (ending_faults gathers files p (files.trees p)) f =

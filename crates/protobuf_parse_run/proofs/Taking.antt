@@ -18,7 +18,7 @@ use Rattle.protobuf_parse_run.specs.declared.loader.LoadedAs.{LoadedAs}
 use Rattle.protobuf_parse_run.specs.declared.log.ReadEntry.{ReadEntry}
 use Rattle.protobuf_parse_run.specs.Walks.{among, import_paths, public_path, public_paths}
 use Rattle.protobuf_parse_run.specs.Loading.{AreKnown, FilesAreNumbered, AreUnloaded, LoadedEntry}
-use Rattle.protobuf_parse_run.specs.Loading.{Grows, IsNumbered, MoreLoaded, Named, SettlesOver}
+use Rattle.protobuf_parse_run.specs.Loading.{Grows, IsNumbered, MoreLoaded, Named, ElaboratesOver}
 use Rattle.protobuf_parse_run.specs.Loading.{file_at, named_trees, read_paths}
 use Rattle.protobuf_parse_run.specs.Frames.{IsOpened, IsTaken, Joined, done_in, imports_in}
 use Rattle.protobuf_parse_run.specs.Frames.{is_public_at, number_if, frame_path, public_done}
@@ -170,12 +170,12 @@ pub closed-is : (gathers : Bool) (f : LoadFrame) (old new : List LoadedEntry)
     (log : List ReadEntry) (chain : List Text) (placed : LoadedAs) → AreKnown old before log
     → IsTaken old log f → AreUnloaded (chain ++ frame_path f ∷ []) old
     → among (frame_path f) chain ≡ false → length f.tree.statements.items ≤ f.next
-    → SettlesOver gathers (frame_path f) (file_syntax f.tree)
+    → ElaboratesOver gathers (frame_path f) (file_syntax f.tree)
     (f.height + 1) f.read f.below.items f.public.items log old new after (Ok placed)
     → IsClosed old new after log chain (frame_path f) placed
-closed-is gathers f old new before after log chain placed known taken unloaded off le settles =
+closed-is gathers f old new before after log chain placed known taken unloaded off le elaborates =
     let none = unloaded (frame_path f) (among-last (frame_path f) chain) in
-    let a = settles none in
+    let a = elaborates none in
     let numbered : FilesAreNumbered (named_trees old) f.below.items
     (import_paths (file_syntax f.tree)) =
     subst (λ (z : List Text). FilesAreNumbered (named_trees old) f.below.items z)

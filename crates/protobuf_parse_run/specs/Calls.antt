@@ -17,7 +17,7 @@ use Rattle.protobuf_parse_run.specs.Walks.{Asked, Event, Input, Trees, events, i
 use Rattle.protobuf_parse_run.specs.Walks.{keep, walk}
 use Rattle.protobuf_parse_run.specs.Run.{Files, IsCounted, MayRead, MayResolve, rows}
 use Rattle.protobuf_parse_run.specs.Loading.{AreKnown, GoesOn, Goes, Good, Grows, IndexBegins}
-use Rattle.protobuf_parse_run.specs.Loading.{IsDecided, SettlesOver, asked_by, chain_texts}
+use Rattle.protobuf_parse_run.specs.Loading.{IsDecided, ElaboratesOver, asked_by, chain_texts}
 use Rattle.protobuf_parse_run.specs.Loading.{legal_by, named_trees, descriptor_in, trees_of}
 use Rattle.protobuf_parse_run.specs.Frames.{Meets, StandsMet, frame_path}
 
@@ -150,8 +150,8 @@ pub record ClosesFrame (gathers : Bool) (frame : LoadFrame) (old new : Loader)
   pub chain : (chain : List Text) → chain_texts old.chain.items ≡ chain ++ frame_path frame ∷ []
       → chain_texts new.chain.items ≡ chain
   pub height : IfOk result (λ placed. placed.height ≡ frame.height + 1)
-  pub settles : TableTells old.tables.names (trees_of (named_trees old.loaded.entries))
-      → SettlesOver gathers (frame_path frame) (file_syntax frame.tree)
+  pub elaborates : TableTells old.tables.names (trees_of (named_trees old.loaded.entries))
+      → ElaboratesOver gathers (frame_path frame) (file_syntax frame.tree)
       (frame.height + 1) frame.read
       frame.below.items frame.public.items old.reads.items old.loaded.entries new.loaded.entries
       new.tables result

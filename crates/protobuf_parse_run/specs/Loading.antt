@@ -30,7 +30,7 @@ use Rattle.protobuf_parse_options.specs.OptionBytes.{known_customs}
 use Rattle.protobuf_parse_options.specs.WithoutOptions.{bare_file}
 use Rattle.protobuf_parse_run.specs.declared.fault.RunFault.{RunFault}
 use Rattle.protobuf_parse_run.specs.declared.fault.RunFault.TheVariants as fault
-use Rattle.protobuf_parse_run.specs.declared.describe.Described.{Described}
+use Rattle.protobuf_parse_run.specs.declared.elaborated.ElaboratedFile.{ElaboratedFile}
 use Rattle.protobuf_parse_run.specs.declared.loader.LoadedFile.{LoadedFile}
 use Rattle.protobuf_parse_run.specs.declared.loader.LoadedAs.{LoadedAs}
 use Rattle.protobuf_parse_run.specs.declared.reach.Held.{Held}
@@ -278,8 +278,8 @@ any_faulty loaded numbers own =
     own || list_any (λ (n : ℕ). has_faults (slice_get loaded n)) numbers
 
 -- What a file becomes by these numbers: but for options, what it becomes without its custom ones.
-pub record IsDescribed (gathers : Bool) (loaded : List LoadedEntry) (files : List FileSyntax)
-    (reach sight : List ℕ) (path : Text) (t : FileSyntax) (d : Described) : Type 0 where
+pub record IsElaborated (gathers : Bool) (loaded : List LoadedEntry) (files : List FileSyntax)
+    (reach sight : List ℕ) (path : Text) (t : FileSyntax) (d : ElaboratedFile) : Type 0 where
   pub faultless : ending_over gathers loaded files (descriptors_over loaded files sight path t)
       reach sight t ≡ []
   pub descriptor : gathers ≡ false → described.file_view d.descriptor
@@ -291,11 +291,11 @@ pub record IsDescribed (gathers : Bool) (loaded : List LoadedEntry) (files : Lis
       reach sight (any_faulty loaded reach d.faulty) t
 
 -- What a file becomes by these numbers, or a fault that stands.
-abbrev pub Describes : Bool → List LoadedEntry → List FileSyntax → (reach sight : List ℕ) → Text
-    → FileSyntax → Result Described ElabFailure → Type 0
-Describes gathers loaded files reach sight path t (Ok d) =
-    IsDescribed gathers loaded files reach sight path t d
-Describes gathers loaded files reach sight path t (Err e) =
+abbrev pub ElaboratesTo : Bool → List LoadedEntry → List FileSyntax → (reach sight : List ℕ) → Text
+    → FileSyntax → Result ElaboratedFile ElabFailure → Type 0
+ElaboratesTo gathers loaded files reach sight path t (Ok d) =
+    IsElaborated gathers loaded files reach sight path t d
+ElaboratesTo gathers loaded files reach sight path t (Err e) =
     Blames e
     (ending_over gathers loaded files (descriptors_over loaded files sight path t) reach sight t)
 
@@ -519,11 +519,11 @@ IsPlaced path loaded (Some placed) = (file : LoadedFile) × (file_at path loaded
     × (placed.height ≡ file.height) × IsNumbered (named_trees loaded) placed.number path
 
 -- what an elaboration leaves
-abbrev pub Settles : Bool → Files → Text → FileSyntax → ℕ → ℕ → List ReadEntry
+abbrev pub ElaboratesFile : Bool → Files → Text → FileSyntax → ℕ → ℕ → List ReadEntry
     → List LoadedEntry → List LoadedEntry → Result LoadedAs RunFault → Type 0
-Settles gathers files path tree height read log old new (Ok placed) = file_at path old ≡ None
+ElaboratesFile gathers files path tree height read log old new (Ok placed) = file_at path old ≡ None
     → IsAdded gathers files path tree height read old new placed
-Settles gathers files path tree height read log old new (Err f) = (e : ReadEntry)
+ElaboratesFile gathers files path tree height read log old new (Err f) = (e : ReadEntry)
     → slice_get log read ≡ Some e → path_buf_text e.path ≡ path
     → OrMemory f
     (StandsInElab (origin_given path (Some e.outcome))
@@ -582,14 +582,14 @@ IsRefusedOver gathers origin path tree imports old f =
     (ending_over gathers old (with_next old tree)
     (descriptors_next old sight path tree) reach sight tree) f)
 
-abbrev pub SettlesOver : Bool → Text → FileSyntax → ℕ → ℕ → List ℕ → List ℕ → List ReadEntry
+abbrev pub ElaboratesOver : Bool → Text → FileSyntax → ℕ → ℕ → List ℕ → List ℕ → List ReadEntry
     → List LoadedEntry
     → List LoadedEntry → Tables → Result LoadedAs RunFault → Type 0
-SettlesOver gathers path tree height read imports public log old new tables (Ok placed) =
+ElaboratesOver gathers path tree height read imports public log old new tables (Ok placed) =
     file_at path old ≡ None
     → IsAddedOver gathers path tree height read imports public old new tables
     placed
-SettlesOver gathers path tree height read imports public log old new tables
+ElaboratesOver gathers path tree height read imports public log old new tables
     (Err f) = (e : ReadEntry)
     → slice_get log read ≡ Some e → path_buf_text e.path ≡ path
     → IsRefusedOver gathers (origin_given path (Some e.outcome)) path tree imports old f

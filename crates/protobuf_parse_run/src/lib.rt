@@ -4,7 +4,7 @@
 mod asking;
 mod bundled;
 mod check;
-mod describe;
+mod elaborated;
 mod fault;
 mod frame;
 mod laws;

@@ -20,9 +20,9 @@ ghost use Rattle.protobuf_parse_run.specs.Walks.{among, at, with_check, with_inp
 ghost use Rattle.protobuf_parse_run.specs.Run.{OrMemory, StandsInCheck, StandsInCycle};
 ghost use Rattle.protobuf_parse_run.specs.Run.{StandsInElab, StandsInLong, are_same_bytes};
 ghost use Rattle.protobuf_parse_run.specs.Run.{input_view, origin_given, rows, text_given};
-ghost use Rattle.protobuf_parse_run.specs.Loading.{Describes, Grows, IndexBegins, IsDecided};
+ghost use Rattle.protobuf_parse_run.specs.Loading.{ElaboratesTo, Grows, IndexBegins, IsDecided};
 ghost use Rattle.protobuf_parse_run.specs.Loading.{IsElabFault, IsPlaced, IsReaders, IsShadowed};
-ghost use Rattle.protobuf_parse_run.specs.Loading.{ReadsTree, SettlesOver, asked_by, chain_texts};
+ghost use Rattle.protobuf_parse_run.specs.Loading.{ReadsTree, ElaboratesOver, asked_by, chain_texts};
 ghost use Rattle.protobuf_parse_run.specs.Loading.{ending_over, legal_by, named_trees};
 ghost use Rattle.protobuf_parse_run.specs.Loading.{descriptors_over, descriptors_with, trees_of};
 ghost use Rattle.protobuf_parse_run.specs.Frames.{Joined, is_public_at, number_if};
@@ -31,7 +31,7 @@ ghost use Rattle.protobuf_parse_run.specs.Calls.{GoesTo, HasIndex, KnowsFiles, L
 ghost use Rattle.protobuf_parse_run.specs.Calls.{StaysDecided, with_file};
 
 use crate::asking::{answer, content, opened, origin, unreadable};
-use crate::describe::{Described, checked, elaborated};
+use crate::elaborated::{ElaboratedFile, checked, elaborated};
 use crate::fault::RunFault;
 use crate::frame::LoadFrame;
 use crate::loaded::LoadedFiles;
@@ -460,7 +460,7 @@ fn close(
         all: &below,
         public: &public,
     };
-    settle(
+    elaborate_and_add(
         alloc,
         loader,
         gathers,
@@ -572,7 +572,7 @@ fn is_memory(fault: &RunFault) -> bool
 }
 
 /// Elaborates a file whose imports are loaded, and adds it to the loaded ones.
-fn settle(
+fn elaborate_and_add(
     alloc: Global,
     loader: &mut Loader,
     gathers: bool,
@@ -588,9 +588,9 @@ fn settle(
     ensures chain { loader.new.chain ≡ loader.old.chain }
     ensures meets { loader.new.meets ≡ loader.old.meets }
     ensures height { IfOk result (λ placed. placed.height ≡ height) }
-    ensures settles { TableTells loader.old.tables.names
+    ensures elaborates { TableTells loader.old.tables.names
         (trees_of (named_trees loader.old.loaded.entries))
-        → SettlesOver gathers (string_bytes path)
+        → ElaboratesOver gathers (string_bytes path)
         (file_syntax tree) height read imports.now.all.now imports.now.public.now
         loader.old.reads.items loader.old.loaded.entries loader.new.loaded.entries loader.new.tables
         result }
@@ -598,12 +598,12 @@ fn settle(
     let sights = sights_of(alloc, &loader.loaded, imports)?;
     loader.tables.names.add(alloc, loader.loaded.len(), &tree)?;
     let kept = Snapshot::of(&tree);
-    let described = descriptor_of(alloc, loader, gathers, &sights, &path, tree, read)?;
-    let Described {
+    let elaborated = descriptor_of(alloc, loader, gathers, &sights, &path, tree, read)?;
+    let ElaboratedFile {
         descriptor,
         faults,
         faulty,
-    } = described;
+    } = elaborated;
     let Sights {
         reach,
         handed_on,
@@ -644,7 +644,7 @@ fn descriptor_of(
     path: &str,
     tree: FileTree,
     read: usize,
-) -> Result<Described, RunFault>
+) -> Result<ElaboratedFile, RunFault>
     requires few { statements_in (file_syntax tree) ≤ 2147483647 }
     requires reach { IsStrictlyIncreasing sights.now.reach.items }
     requires sight { IsStrictlyIncreasing sights.now.sight.items }
@@ -656,7 +656,7 @@ fn descriptor_of(
     ensures meets { loader.new.meets ≡ loader.old.meets }
     ensures ok { (files : List FileSyntax) → TableTells loader.old.tables.names files →
         IfOk result
-        (λ d. Describes gathers loader.old.loaded.entries files sights.now.reach.items
+        (λ d. ElaboratesTo gathers loader.old.loaded.entries files sights.now.reach.items
         sights.now.sight.items path.now (file_syntax tree) (Ok d)) }
     ensures err { (files : List FileSyntax) → TableTells loader.old.tables.names files
         → let t = file_syntax tree in
@@ -670,22 +670,22 @@ fn descriptor_of(
         → IfOk result (λ d. IndexBegins loader.new.tables.spots
         (descriptors_with loader.old.loaded.entries (file_view d.descriptor))) }
 {
-    match described(alloc, loader, gathers, sights, path, tree) {
-        Ok(described) => Ok(described),
+    match elaborated_or_checked(alloc, loader, gathers, sights, path, tree) {
+        Ok(elaborated) => Ok(elaborated),
         Err(ElabFailure::Memory) => Err(RunFault::Memory),
         Err(ElabFailure::Fault(error)) => Err(refused(alloc, &loader.reads, read, path, error)),
     }
 }
 
 /// What a file becomes, or, where faults are gathered, what is wrong in it too.
-fn described(
+fn elaborated_or_checked(
     alloc: Global,
     loader: &mut Loader,
     gathers: bool,
     sights: &Sights,
     path: &str,
     tree: FileTree,
-) -> Result<Described, ElabFailure>
+) -> Result<ElaboratedFile, ElabFailure>
     requires few { statements_in (file_syntax tree) ≤ 2147483647 }
     requires reach { IsStrictlyIncreasing sights.now.reach.items }
     requires sight { IsStrictlyIncreasing sights.now.sight.items }
@@ -695,8 +695,8 @@ fn described(
     ensures reads { loader.new.reads ≡ loader.old.reads }
     ensures chain { loader.new.chain ≡ loader.old.chain }
     ensures meets { loader.new.meets ≡ loader.old.meets }
-    ensures describes { (files : List FileSyntax) → TableTells loader.old.tables.names files
-        → Describes gathers loader.old.loaded.entries files sights.now.reach.items
+    ensures elaborates { (files : List FileSyntax) → TableTells loader.old.tables.names files
+        → ElaboratesTo gathers loader.old.loaded.entries files sights.now.reach.items
         sights.now.sight.items path.now (file_syntax tree) result }
     ensures begins { (files : List FileSyntax) → TableTells loader.old.tables.names files
         → IfOk result (λ d. IndexBegins loader.new.tables.spots

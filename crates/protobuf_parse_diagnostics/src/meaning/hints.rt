@@ -144,25 +144,27 @@ pub fn declared_twice(
     alloc: Global,
     sight: &Sight<'_, '_, '_, '_>,
     error: &ElabError,
-    told: Option<Place>,
 ) -> Result<Option<String>, AllocError> {
     let Some(all) = sight.known.of_last_part(&error.what) else {
         return Ok(None);
     };
     let mut text = String::new(alloc);
+    let mut is_told_here = false;
     for found in all {
         let Found { declared, file } = *found;
-        let is_told = file == sight.at && Some(declared.place) == told;
-        if sight.reaches(file) && is_spoken_of(declared, error) && !is_told {
-            if let Some(known) = sight.known.files.get(file) {
-                push_site(&mut text, known.source.origin, declared.place)?;
-            }
+        if !sight.reaches(file) || !is_spoken_of(declared, error) {
+            continue;
+        }
+        if file == sight.at && declared.place == error.place {
+            is_told_here = true;
+        } else if let Some(known) = sight.known.files.get(file) {
+            push_site(&mut text, known.source.origin, declared.place)?;
         }
     }
     if text.is_empty() {
         return Ok(None);
     }
-    if told.is_some() {
+    if is_told_here {
         text.push_str(" too")?;
     }
     Ok(Some(text))

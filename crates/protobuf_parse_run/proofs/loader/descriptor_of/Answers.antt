@@ -7,7 +7,7 @@ use Rattle.protobuf_parse_run.proofs.Leaving.{elab-stands}
 use Rattle.protobuf_parse_run.proofs.loader.descriptor_of.Goals as goal
 
 pub returns-in-Ok-clause-ok : goal.returns-in-Ok-clause-ok
-returns-in-Ok-clause-ok c = c.in-Ok.ensures.describes
+returns-in-Ok-clause-ok c = c.in-Ok.ensures.elaborates
 
 pub returns-in-Err-Memory-clause-err : goal.returns-in-Err-Memory-clause-err
 returns-in-Err-Memory-clause-err c files told e found named = inr refl
@@ -22,5 +22,5 @@ returns-in-Err-Fault-clause-err c files told e found named =
     (ending_over c.args.gathers c.args.loader.now.loaded.entries files descriptors
     c.args.sights.now.reach.items sight t)
     (fault_view c.in-Err-Fault.error) c.refused.result
-    (rw c.in-Err-Fault.field-0-is at (c.in-Err-Fault.ensures.describes files told))
+    (rw c.in-Err-Fault.field-0-is at (c.in-Err-Fault.ensures.elaborates files told))
     (c.refused.ensures e (rw (c.deref.ensures.value, c.in-Err-Fault.ensures.reads) found) named)

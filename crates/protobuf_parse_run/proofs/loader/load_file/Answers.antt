@@ -500,7 +500,7 @@ returns-in_err-placed g c = record {
       c.close.new.loader.loaded.entries _ c.close.new.loader.tables _
       (Err c.in_err-placed.field-0.0) r _ _ go c.files.invariant.known c.files.invariant.taken
       none c.files.invariant.off le (omega (arith, c.files.invariant.low))
-      (c.in_err-placed.ensures.settles c.files.invariant.known.tells) in
+      (c.in_err-placed.ensures.elaborates c.files.invariant.known.tells) in
       let p = err_from_is_err_and c.from_residual-in_err-placed.result
       c.from_residual-in_err-placed.ensures.1 in
       rw (p.1, p.2, reads)
@@ -554,7 +554,7 @@ returns-in_default-pop g c = record {
       c.close.new.loader.loaded.entries _ c.close.new.loader.tables _
       (Ok c.in_ok-placed.placed) r _ _ go c.files.invariant.known c.files.invariant.taken none
       c.files.invariant.off le (omega (arith, c.files.invariant.low))
-      (c.in_ok-placed.ensures.settles c.files.invariant.known.tells) in
+      (c.in_ok-placed.ensures.elaborates c.files.invariant.known.tells) in
       rw reads
       (running-end c.args.sources.now.gathers legal files kept _
       (path_buf_text c.args.input.now) c.args.loader.now.meets c.files.stack.items c.files.top
@@ -583,7 +583,7 @@ returns-in_default-pop g c = record {
       let cl = closed-is c.args.sources.now.gathers c.files.top _ _ _ _ _
       (chain_of [] c.files.stack.items) c.in_ok-placed.placed c.files.invariant.known
       c.files.invariant.taken c.files.invariant.unloaded c.files.invariant.off le
-      (c.in_ok-placed.ensures.settles c.files.invariant.known.tells) in
+      (c.in_ok-placed.ensures.elaborates c.files.invariant.known.tells) in
       rw reads cl.known;
 }
 
@@ -617,7 +617,7 @@ files-preserved-in_default g c =
     let cl = closed-is c.args.sources.now.gathers c.files.top _ _ _ _ _
     (chain_of [] c.files.stack.items) c.in_ok-placed.placed c.files.invariant.known
     c.files.invariant.taken c.files.invariant.unloaded c.files.invariant.off le
-    (c.in_ok-placed.ensures.settles c.files.invariant.known.tells) in
+    (c.in_ok-placed.ensures.elaborates c.files.invariant.known.tells) in
     let s : c.files.stack.items ≡ c.pop.new.self.items ++ c.in-Some-pop.parent
     ∷ [] = c.in-Some-pop.ensures.items in
     let w = waiting-pop [] c.pop.new.self.items c.in-Some-pop.parent (frame_path c.files.top)
@@ -681,7 +681,7 @@ files-preserved-in_default g c =
           c.files.top _ _ c.close.new.loader.loaded.entries _ c.close.new.loader.tables _
           (Ok c.in_ok-placed.placed) r _ _ go c.files.invariant.known c.files.invariant.taken
           none c.files.invariant.off le (omega (arith, c.files.invariant.low))
-          (c.in_ok-placed.ensures.settles c.files.invariant.known.tells) in
+          (c.in_ok-placed.ensures.elaborates c.files.invariant.known.tells) in
           rw (reads, c.close.ensures.meets)
           (running-close c.args.sources.now.gathers legal files kept _
           (path_buf_text c.args.input.now) c.args.loader.now.meets c.pop.new.self.items
@@ -709,7 +709,7 @@ returns-in_err-join g c = record {
       c.close.new.loader.loaded.entries _ c.close.new.loader.tables _
       (Ok c.in_ok-placed.placed) r _ _ go c.files.invariant.known c.files.invariant.taken none
       c.files.invariant.off le (omega (arith, c.files.invariant.low))
-      (c.in_ok-placed.ensures.settles c.files.invariant.known.tells) in
+      (c.in_ok-placed.ensures.elaborates c.files.invariant.known.tells) in
       let p = err_from_is_err_and c.from_residual-in_err-join.result
       c.from_residual-in_err-join.ensures.1 in
       rw (p.1, reads)

@@ -4,7 +4,7 @@ use Rattle.protobuf_parse_model.specs.Descriptors as described
 use Rattle.protobuf_parse_model.specs.Faults.{found}
 use Rattle.protobuf_parse_run.specs.Loading.{descriptors_with}
 use Rattle.protobuf_parse_run.proofs.Spelling.{further-none, further-told-of, none-found}
-use Rattle.protobuf_parse_run.proofs.describe.tell_further.Goals as goal
+use Rattle.protobuf_parse_run.proofs.elaborated.tell_further.Goals as goal
 
 pub returns-then-not-has_custom_option-clause-told :
     goal.returns-then-not-has_custom_option-clause-told

@@ -41,7 +41,7 @@ use Rattle.protobuf_parse_run.specs.Run.{report_at}
 use Rattle.protobuf_parse_run.specs.Repeats.{declaring, repeat_faults, repeat_place, told_at}
 use Rattle.protobuf_parse_run.specs.Loading.{Agrees, AreJoined, AreKnown, FilesAreNumbered}
 use Rattle.protobuf_parse_run.specs.Loading.{AreNumbersOf, LoadedEntry, IsLoaded, IsNumbered, Named}
-use Rattle.protobuf_parse_run.specs.Loading.{Settles, SettlesOver, any_faulty, customs_over}
+use Rattle.protobuf_parse_run.specs.Loading.{ElaboratesFile, ElaboratesOver, any_faulty, customs_over}
 use Rattle.protobuf_parse_run.specs.Loading.{ending_over, faults_over, file_at, has_faults}
 use Rattle.protobuf_parse_run.specs.Loading.{own_over, report_over, file_over, named_trees}
 use Rattle.protobuf_parse_run.specs.Loading.{paths_in, picked_descriptors, descriptor_in}
@@ -725,8 +725,8 @@ pub settled-in : (gathers : Bool) (files : Files) (loaded new : List LoadedEntry
     (t : FileSyntax) (height read : ℕ) (below public : List ℕ) (log : List ReadEntry)
     (r : Result LoadedAs RunFault)
     → IsNext files loaded tables log p t below
-    → SettlesOver gathers p t height read below public log loaded new after r
-    → Settles gathers files p t height read log loaded new r
+    → ElaboratesOver gathers p t height read below public log loaded new after r
+    → ElaboratesFile gathers files p t height read log loaded new r
 settled-in gathers files loaded new tables after p t height read below public log
     (Ok placed) n over =
     λ missing.

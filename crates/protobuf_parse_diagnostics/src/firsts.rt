@@ -1,22 +1,9 @@
-//! Where a fault of meaning stands.
+//! Which declaration was the first of a name.
 
 use crate::outline::{Declared, DeclaredKind, Outline};
-use protobuf_parse_model::{ElabError, ElabErrorKind};
 use protobuf_parse_syntax::Place;
 use std::alloc::{AllocError, Global};
 use std::collections::BTreeMap;
-
-/// The place of the last declaration of the file of the full name that is declared twice: of E5,
-/// which speaks of a message or an enum, or of E6, which speaks of an extension. None of other
-/// faults, and where the file declares it nowhere.
-pub fn last_declared(own: &Outline<'_>, error: &ElabError) -> Option<Place> {
-    let what = error.what.as_str();
-    match error.kind {
-        ElabErrorKind::TypeDeclaredTwice => last_type(own, what),
-        ElabErrorKind::ExtensionDeclaredTwice => last_extension(own, what),
-        _ => None,
-    }
-}
 
 /// A declaration, and the first one that is of its kind and its name in its body.
 #[derive(Clone, Copy)]
@@ -62,26 +49,4 @@ impl<'o, 'a> Firsts<'o, 'a> {
         }
         None
     }
-}
-
-/// The last message or enum of this full name.
-fn last_type(own: &Outline<'_>, full: &str) -> Option<Place> {
-    let mut last = None;
-    for declared in &own.declared {
-        if declared.is_type() && declared.full.as_str() == full {
-            last = Some(declared.place);
-        }
-    }
-    last
-}
-
-/// The last extension of this full name.
-fn last_extension(own: &Outline<'_>, full: &str) -> Option<Place> {
-    let mut last = None;
-    for declared in &own.declared {
-        if declared.kind == DeclaredKind::Extension && declared.full.as_str() == full {
-            last = Some(declared.place);
-        }
-    }
-    last
 }

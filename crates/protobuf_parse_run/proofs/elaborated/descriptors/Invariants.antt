@@ -1,7 +1,7 @@
 use Rattle.std.proofs.Common.{◌≡◌, map, option_map, slice_get, take}
 use Rattle.protobuf_parse_model.specs.Descriptors as described
 use Rattle.protobuf_parse_run.specs.Loading.{descriptor_seen, descriptors_with}
-use Rattle.protobuf_parse_run.proofs.describe.descriptors.Given as goal
+use Rattle.protobuf_parse_run.proofs.elaborated.descriptors.Given as goal
 
 abbrev pub invariant-files : goal.invariant-files
 invariant-files l =

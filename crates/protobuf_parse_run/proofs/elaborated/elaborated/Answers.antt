@@ -5,10 +5,10 @@ use Rattle.protobuf_parse_model.specs.Descriptors as described
 use Rattle.protobuf_parse_run.specs.Loading.{descriptor_in, repeats_over}
 use Rattle.protobuf_parse_run.proofs.Catching.{begins-more}
 use Rattle.protobuf_parse_run.proofs.Spelling.{none-set, own-told}
-use Rattle.protobuf_parse_run.proofs.describe.elaborated.Goals as goal
+use Rattle.protobuf_parse_run.proofs.elaborated.elaborated.Goals as goal
 
-pub returns-in_ok-descriptor-clause-describes : goal.returns-in_ok-descriptor-clause-describes
-returns-in_ok-descriptor-clause-describes c files told =
+pub returns-in_ok-descriptor-clause-elaborates : goal.returns-in_ok-descriptor-clause-elaborates
+returns-in_ok-descriptor-clause-elaborates c files told =
     let reach = c.args.sights.now.reach.items in
     let once : repeats_over c.args.loaded.now.entries files reach (file_syntax c.args.tree)
     ≡ [] = ((rw c.deref-2.ensures.value at c.in_ok-link_at_places.ensures) files told).0 in
@@ -22,8 +22,8 @@ returns-in_ok-descriptor-clause-begins c files told =
     begins-more c.args.tables.now.spots (map descriptor_in c.args.loaded.now.entries)
     (described.file_view c.in_ok-descriptor.descriptor) c.requires.begins
 
-pub returns-in_err-descriptor-clause-describes : goal.returns-in_err-descriptor-clause-describes
-returns-in_err-descriptor-clause-describes c files told =
+pub returns-in_err-descriptor-clause-elaborates : goal.returns-in_err-descriptor-clause-elaborates
+returns-in_err-descriptor-clause-elaborates c files told =
     let reach = c.args.sights.now.reach.items in
     let once : repeats_over c.args.loaded.now.entries files reach (file_syntax c.args.tree)
     ≡ [] = ((rw c.deref-2.ensures.value at c.in_ok-link_at_places.ensures) files told).0 in

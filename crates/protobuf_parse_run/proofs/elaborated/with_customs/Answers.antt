@@ -8,10 +8,10 @@ use Rattle.protobuf_parse_options.specs.WithoutOptions.{bare_file}
 use Rattle.protobuf_parse_run.specs.Loading.{customs_over, descriptors_with}
 use Rattle.protobuf_parse_run.proofs.Catching.{next-alike, whole-alike, whole-begins}
 use Rattle.protobuf_parse_run.proofs.Spelling.{customs-told, options-alike, own-told, some-set}
-use Rattle.protobuf_parse_run.proofs.describe.with_customs.Goals as goal
+use Rattle.protobuf_parse_run.proofs.elaborated.with_customs.Goals as goal
 
-pub returns-in_err-plain-clause-describes : goal.returns-in_err-plain-clause-describes
-returns-in_err-plain-clause-describes c files told linked =
+pub returns-in_err-plain-clause-elaborates : goal.returns-in_err-plain-clause-elaborates
+returns-in_err-plain-clause-elaborates c files told linked =
     let e = err_from_is_err_and c.from_residual.result c.from_residual.ensures.1 in
     rw (e.1, e.2)
     (own-told c.args.loaded.now.entries files c.args.seen.now.reach.now
@@ -19,8 +19,8 @@ returns-in_err-plain-clause-describes c files told linked =
     (file_syntax c.args.tree) linked c.in_err-plain.field-0.0
     (c.in_err-plain.ensures files told))
 
-pub returns-in_err-descriptor-clause-describes : goal.returns-in_err-descriptor-clause-describes
-returns-in_err-descriptor-clause-describes c files told linked =
+pub returns-in_err-descriptor-clause-elaborates : goal.returns-in_err-descriptor-clause-elaborates
+returns-in_err-descriptor-clause-elaborates c files told linked =
     let loaded = c.args.loaded.now.entries in
     let reach = c.args.seen.now.reach.now in
     let sight = c.args.seen.now.sight.now in
@@ -35,8 +35,8 @@ returns-in_err-descriptor-clause-describes c files told linked =
     (customs_over descriptors reach sight) c.in_err-descriptor.field-0.0 same own.0
     (c.in_err-descriptor.ensures files told))
 
-pub returns-clause-describes : goal.returns-clause-describes
-returns-clause-describes c files told linked =
+pub returns-clause-elaborates : goal.returns-clause-elaborates
+returns-clause-elaborates c files told linked =
     let loaded = c.args.loaded.now.entries in
     let reach = c.args.seen.now.reach.now in
     let sight = c.args.seen.now.sight.now in

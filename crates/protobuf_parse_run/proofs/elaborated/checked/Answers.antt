@@ -9,10 +9,10 @@ use Rattle.protobuf_parse_run.specs.Loading.{has_faults, own_over, descriptors_o
 use Rattle.protobuf_parse_run.specs.Loading.{descriptors_with, report_over, repeats_over}
 use Rattle.protobuf_parse_run.specs.Run.{is_nothing}
 use Rattle.protobuf_parse_run.proofs.Spelling.{nothing-is, report-same}
-use Rattle.protobuf_parse_run.proofs.describe.checked.Goals as goal
+use Rattle.protobuf_parse_run.proofs.elaborated.checked.Goals as goal
 
-pub returns-clause-describes : goal.returns-clause-describes
-returns-clause-describes c files told =
+pub returns-clause-elaborates : goal.returns-clause-elaborates
+returns-clause-elaborates c files told =
     let loaded = c.args.loaded.now.entries in
     let t = file_syntax c.args.tree in
     let reach = c.args.sights.now.reach.items in

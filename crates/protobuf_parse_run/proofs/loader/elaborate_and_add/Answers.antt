@@ -4,16 +4,16 @@ use Rattle.std.proofs.lemmas.Result.{err_from_is_err_and}
 use Rattle.protobuf_parse_syntax.specs.Trees.{file_syntax}
 use Rattle.protobuf_parse_model.specs.Descriptors.{FileDescriptor, Text}
 use Rattle.protobuf_parse_run.specs.Run.{StandsInElab, origin_given}
-use Rattle.protobuf_parse_run.specs.Loading.{IndexBegins, Describes, Named, ending_over}
+use Rattle.protobuf_parse_run.specs.Loading.{IndexBegins, ElaboratesTo, Named, ending_over}
 use Rattle.protobuf_parse_run.specs.Loading.{named_trees}
 use Rattle.protobuf_parse_run.specs.Loading.{descriptor_in, descriptors_next, trees_of, with_next}
 use Rattle.protobuf_parse_run.specs.declared.loader.LoadedFile.{LoadedFile}
 use Rattle.protobuf_parse_run.proofs.Catching.{plains-push}
 use Rattle.protobuf_parse_run.proofs.Numbers.{named-length}
-use Rattle.protobuf_parse_run.proofs.loader.settle.Goals as goal
+use Rattle.protobuf_parse_run.proofs.loader.elaborate_and_add.Goals as goal
 
-pub returns-clause-settles : goal.returns-clause-settles
-returns-clause-settles c told none =
+pub returns-clause-elaborates : goal.returns-clause-elaborates
+returns-clause-elaborates c told none =
     let loaded = c.args.loader.now.loaded.entries in
     let t = file_syntax c.args.tree in
     let files = trees_of (named_trees loaded) in
@@ -21,14 +21,14 @@ returns-clause-settles c told none =
     ∙ (named-length loaded ∙ sym c.len.ensures.len) in
     let tells = c.in_ok-add.ensures files number told in
     let sights = c.in_ok-sights.sights in
-    let described = c.in_ok-described.described in
+    let elaborated = c.in_ok-elaborated.elaborated in
     let is = subst
-    (λ (z : Text). Describes c.args.gathers loaded
-    (with_next loaded t) sights.reach.items sights.sight.items z t (Ok described))
+    (λ (z : Text). ElaboratesTo c.args.gathers loaded
+    (with_next loaded t) sights.reach.items sights.sight.items z t (Ok elaborated))
     c.deref.ensures
-    (c.in_ok-described.ensures.ok (with_next loaded t) tells) in
+    (c.in_ok-elaborated.ensures.ok (with_next loaded t) tells) in
     let same : c.descriptor_of.new.loader.loaded.entries
-    ≡ loaded = ap (λ m. m.entries) c.in_ok-described.ensures.loaded in
+    ≡ loaded = ap (λ m. m.entries) c.in_ok-elaborated.ensures.loaded in
     let added = (rw same at c.in_ok-placed.ensures.added) in
     let file : LoadedFile = record {
       tree = c.of-kept.result;
@@ -36,9 +36,9 @@ returns-clause-settles c told none =
       reach = sights.reach;
       handed_on = sights.handed_on;
       read = c.args.read;
-      descriptor = described.descriptor;
-      faults = described.faults;
-      faulty = described.faulty;
+      descriptor = elaborated.descriptor;
+      faults = elaborated.faults;
+      faulty = elaborated.faulty;
     } in
     record {
       key = c.args.path;
@@ -57,18 +57,18 @@ returns-clause-settles c told none =
       alike = is.alike;
       faulty = is.faulty;
       told = is.told;
-      tells = rw c.in_ok-described.ensures.names tells;
+      tells = rw c.in_ok-elaborated.ensures.names tells;
       begins =
           subst (λ (ps : List FileDescriptor). IndexBegins c.descriptor_of.new.loader.tables.spots
           ps)
           (plains-push loaded (c.args.path, file) ∙ ap (map descriptor_in) (sym added.0))
-          (c.in_ok-described.ensures.begins (with_next loaded t) tells);
+          (c.in_ok-elaborated.ensures.begins (with_next loaded t) tells);
       height_placed = c.in_ok-placed.ensures.height;
       number_placed = added.1;
     }
 
-pub returns-in_err-described-clause-settles : goal.returns-in_err-described-clause-settles
-returns-in_err-described-clause-settles c told =
+pub returns-in_err-elaborated-clause-elaborates : goal.returns-in_err-elaborated-clause-elaborates
+returns-in_err-elaborated-clause-elaborates c told =
     let loaded = c.args.loader.now.loaded.entries in
     let t = file_syntax c.args.tree in
     let files = trees_of (named_trees loaded) in
@@ -76,16 +76,16 @@ returns-in_err-described-clause-settles c told =
     ∙ (named-length loaded ∙ sym c.len.ensures.len) in
     let tells = c.in_ok-add.ensures files number told in
     let sights = c.in_ok-sights.sights in
-    let err = c.in_err-described.ensures.err (with_next loaded t) tells in
-    let p = err_from_is_err_and c.from_residual-in_err-described.result
-    c.from_residual-in_err-described.ensures.1 in
+    let err = c.in_err-elaborated.ensures.err (with_next loaded t) tells in
+    let p = err_from_is_err_and c.from_residual-in_err-elaborated.result
+    c.from_residual-in_err-elaborated.ensures.1 in
     rw (p.1, p.2) (λ e found named. elim (err e found (named ∙ sym c.deref.ensures)) [
       | inl w ↦
           let stands = subst
           (λ (z : Text). StandsInElab (origin_given z (Some e.outcome))
           (ending_over c.args.gathers loaded (with_next loaded t)
           (descriptors_next loaded sights.sight.items z t) sights.reach.items sights.sight.items t)
-          c.in_err-described.field-0.0) c.deref.ensures w in
+          c.in_err-elaborated.field-0.0) c.deref.ensures w in
           inl (
             sights.reach.items,
             sights.sight.items,

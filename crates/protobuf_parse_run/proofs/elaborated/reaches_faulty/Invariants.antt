@@ -1,7 +1,7 @@
 use Rattle.std.proofs.Common.{◌≡◌, ℕ, drop, slice_get}
 use Rattle.std.specs.List.{list_any}
 use Rattle.protobuf_parse_run.specs.Loading.{has_faults}
-use Rattle.protobuf_parse_run.proofs.describe.reaches_faulty.Given as goal
+use Rattle.protobuf_parse_run.proofs.elaborated.reaches_faulty.Given as goal
 
 abbrev pub invariant-loop-number : goal.invariant-loop-number
 invariant-loop-number l =

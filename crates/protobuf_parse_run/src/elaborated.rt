@@ -12,7 +12,7 @@ ghost use Rattle.protobuf_parse_model.specs.Tables.{TableTells, picked};
 ghost use Rattle.protobuf_parse_elaboration.specs.FileDescriptor.{environment, file_faults};
 ghost use Rattle.protobuf_parse_elaboration.specs.FileDescriptor.{file_of};
 ghost use Rattle.protobuf_parse_options.specs.Holding.{Holds};
-ghost use Rattle.protobuf_parse_run.specs.Loading.{IndexBegins, Describes, customs_over};
+ghost use Rattle.protobuf_parse_run.specs.Loading.{IndexBegins, ElaboratesTo, customs_over};
 ghost use Rattle.protobuf_parse_run.specs.Loading.{descriptor_in, has_faults, own_over};
 ghost use Rattle.protobuf_parse_run.specs.Loading.{repeats_over};
 ghost use Rattle.protobuf_parse_run.specs.Loading.{report_over, descriptor_seen, descriptors_with};
@@ -29,7 +29,7 @@ use std::alloc::{AllocError, Global};
 
 /// What a file becomes.
 #[derive(Drop)]
-pub struct Described {
+pub struct ElaboratedFile {
     pub descriptor: FileDescriptorProto,
     /// What is wrong in the file, where faults are gathered.
     pub faults: Vec<ElabError>,
@@ -46,14 +46,14 @@ pub fn elaborated(
     sights: &Sights,
     path: &str,
     tree: FileTree,
-) -> Result<Described, ElabFailure>
+) -> Result<ElaboratedFile, ElabFailure>
     requires few { statements_in (file_syntax tree) ≤ 2147483647 }
     requires reach { IsStrictlyIncreasing sights.now.reach.items }
     requires sight { IsStrictlyIncreasing sights.now.sight.items }
     requires begins { IndexBegins tables.old.spots (map descriptor_in loaded.now.entries) }
     ensures names { tables.new.names ≡ tables.old.names }
-    ensures describes { (files : List FileSyntax) → TableTells tables.old.names files
-        → Describes false loaded.now.entries files sights.now.reach.items sights.now.sight.items
+    ensures elaborates { (files : List FileSyntax) → TableTells tables.old.names files
+        → ElaboratesTo false loaded.now.entries files sights.now.reach.items sights.now.sight.items
         path.now (file_syntax tree) result }
     ensures begins { (files : List FileSyntax) → TableTells tables.old.names files
         → IfOk result (λ d. IndexBegins tables.new.spots
@@ -69,7 +69,7 @@ pub fn elaborated(
         with_customs(alloc, loaded, &mut tables.spots, &seen, path, tree)
     } else {
         let descriptor = elaborate_owned(alloc, path, tree, &seen, &WithoutCustoms)?;
-        Ok(Described {
+        Ok(ElaboratedFile {
             descriptor,
             faults: Vec::new(alloc),
             faulty: false,
@@ -86,14 +86,14 @@ pub fn checked(
     sights: &Sights,
     path: &str,
     tree: FileTree,
-) -> Result<Described, ElabFailure>
+) -> Result<ElaboratedFile, ElabFailure>
     requires few { statements_in (file_syntax tree) ≤ 2147483647 }
     requires reach { IsStrictlyIncreasing sights.now.reach.items }
     requires sight { IsStrictlyIncreasing sights.now.sight.items }
     requires begins { IndexBegins tables.old.spots (map descriptor_in loaded.now.entries) }
     ensures names { tables.new.names ≡ tables.old.names }
-    ensures describes { (files : List FileSyntax) → TableTells tables.old.names files
-        → Describes true loaded.now.entries files sights.now.reach.items sights.now.sight.items
+    ensures elaborates { (files : List FileSyntax) → TableTells tables.old.names files
+        → ElaboratesTo true loaded.now.entries files sights.now.reach.items sights.now.sight.items
         path.now (file_syntax tree) result }
     ensures begins { IfOk result (λ d. IndexBegins tables.new.spots
         (descriptors_with loaded.now.entries (described.file_view d.descriptor))) }
@@ -109,7 +109,7 @@ pub fn checked(
     let faulty = !faults.is_empty();
     let spots = &mut tables.spots;
     tell_further(alloc, &mut faults, loaded, spots, &seen, &plain, path, tree)?;
-    Ok(Described {
+    Ok(ElaboratedFile {
         descriptor: plain,
         faults,
         faulty,
@@ -227,12 +227,12 @@ fn with_customs(
     seen: &Seen<'_>,
     path: &str,
     tree: FileTree,
-) -> Result<Described, ElabFailure>
+) -> Result<ElaboratedFile, ElabFailure>
     requires few { statements_in (file_syntax tree) ≤ 2147483647 }
     requires begins { IndexBegins spots.old (map descriptor_in loaded.now.entries) }
-    ensures describes { (files : List FileSyntax) → TableTells seen.now.declarations.now files
+    ensures elaborates { (files : List FileSyntax) → TableTells seen.now.declarations.now files
         → repeats_over loaded.now.entries files seen.now.reach.now (file_syntax tree) ≡ []
-        → Describes false loaded.now.entries files seen.now.reach.now seen.now.sight.now path.now
+        → ElaboratesTo false loaded.now.entries files seen.now.reach.now seen.now.sight.now path.now
         (file_syntax tree) result }
     ensures begins { (files : List FileSyntax) → TableTells seen.now.declarations.now files
         → IfOk result (λ d. IndexBegins spots.new
@@ -241,7 +241,7 @@ fn with_customs(
     let plain = elaborate(alloc, path, &tree, seen, &WithoutCustoms)?;
     add_next(spots, alloc, loaded, &plain)?;
     let descriptor = spelled(alloc, loaded, &spots.declared, seen, &plain, path, tree)?;
-    Ok(Described {
+    Ok(ElaboratedFile {
         descriptor,
         faults: Vec::new(alloc),
         faulty: false,

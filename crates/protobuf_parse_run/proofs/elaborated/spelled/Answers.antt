@@ -1,16 +1,16 @@
-use Rattle.std.proofs.Common.{◌≡◌, ◌∙◌, ◌++◌, List, ap, flat_map, subst}
+use Rattle.std.proofs.Common.{◌∙◌, List, ap, flat_map, subst}
 use Rattle.std.specs.Prelude.{option_to_list}
 use Rattle.protobuf_parse_syntax.specs.Trees.{file_syntax}
 use Rattle.protobuf_parse_model.specs.Descriptors as described
 use Rattle.protobuf_parse_model.specs.Descriptors.{FileDescriptor}
 use Rattle.protobuf_parse_model.specs.Environment.{Customs}
-use Rattle.protobuf_parse_model.specs.Faults.{found}
+use Rattle.protobuf_parse_model.specs.Faults.{Elaborates}
 use Rattle.protobuf_parse_model.specs.Tables.{picked}
-use Rattle.protobuf_parse_elaboration.specs.FileDescriptor.{environment, file_faults}
+use Rattle.protobuf_parse_elaboration.specs.FileDescriptor.{environment, file_faults, file_of}
 use Rattle.protobuf_parse_options.specs.OptionBytes.{known_customs}
 use Rattle.protobuf_parse_run.specs.Loading.{picked_descriptors, descriptors_with}
 use Rattle.protobuf_parse_run.proofs.Catching.{listed, picked-seen}
-use Rattle.protobuf_parse_run.proofs.describe.tell_customs.Goals as goal
+use Rattle.protobuf_parse_run.proofs.elaborated.spelled.Goals as goal
 
 pub returns : goal.returns
 returns c files told =
@@ -28,6 +28,6 @@ returns c files told =
     ∙ ap (λ (ds : List FileDescriptor). known_customs ds (listed c.deref-2.result.now)) reached
     ∙ ap (λ (ds : List FileDescriptor). known_customs (picked_descriptors descriptors reach) ds)
     visible in
-    subst (λ (k : Customs). found c.elaborate_all_owned.new.faults
-    ≡ found c.args.faults.now ++ file_faults (environment seen k t) t)
-    known (c.in_ok-elaborate_all_owned.ensures.faults files told)
+    subst (λ (k : Customs). Elaborates described.file_view c.elaborate_owned.result
+    (file_faults (environment seen k t) t) (file_of (environment seen k t) c.args.path.now t))
+    known (c.elaborate_owned.ensures files told)
