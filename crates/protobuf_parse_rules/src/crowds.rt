@@ -36,10 +36,11 @@ fn crowd_of(alloc: Global, spread: u64, keys: &[u64]) -> Result<Vec<u64>, AllocE
 {
     let slots = keys.len().saturating_mul(8);
     if slots == 0 || slots > MOST_SLOTS {
-        return keys.to_vec(alloc);
+        return Vec::from_slice(alloc, keys);
     }
     let counts = counts_of(alloc, spread, keys, slots)?;
-    crowded_keys(alloc, spread, &counts, keys)
+    let crowd = crowded_keys(alloc, spread, &counts, keys)?;
+    Ok(crowd)
 }
 
 /// How many keys have each of so many slots, where two stand for more.

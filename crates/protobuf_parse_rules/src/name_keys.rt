@@ -59,11 +59,20 @@ fn other_keys(alloc: Global, bodies: &[Body<'_>]) -> Result<Vec<u64>, AllocError
     ensures { IfOk result (λ keys. keys.items
         ≡ flat_map spec.other_keys (map body_view bodies.now)) }
 {
-    let mut keys = Vec::new(alloc);
+    let mut keys = Vec::with_capacity(alloc, fields_in(bodies))?;
     'bodies: for body in bodies {
         add_keys(&mut keys, body)?;
     }
     Ok(keys)
+}
+
+/// How many fields the bodies have: room for most of the keys.
+fn fields_in(bodies: &[Body<'_>]) -> usize {
+    let mut count = 0_usize;
+    for body in bodies {
+        count = count.saturating_add(body.holds.fields().len());
+    }
+    count
 }
 
 fn add_keys(keys: &mut Vec<u64>, body: &Body<'_>) -> Result<(), AllocError>

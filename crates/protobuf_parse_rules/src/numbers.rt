@@ -33,7 +33,8 @@ pub fn numbers_are_apart(alloc: Global, bodies: &[Body<'_>]) -> Result<bool, All
         return claims_are_apart(alloc, bodies);
     }
     let keys = message_keys(alloc, bodies)?;
-    if many_are_apart(alloc, &keys)? {
+    let apart = many_are_apart(alloc, &keys)?;
+    if apart {
         return Ok(true);
     }
     claims_are_apart(alloc, bodies)

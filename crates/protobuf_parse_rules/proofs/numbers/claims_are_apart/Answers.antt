@@ -1,5 +1,6 @@
-use Rattle.std.proofs.Common.{map, ap, ◌∙◌}
-use Rattle.std.specs.List.{flat_map}
+use Rattle.std.proofs.Common.{map, ap, ◌∙◌, subst}
+use Rattle.std.proofs.Math.Dec.{eqb}
+use Rattle.std.specs.List.{IsDistinct, flat_map}
 use Rattle.protobuf_parse_rules.specs.Keys.{claim_key}
 use Rattle.protobuf_parse_rules.specs.Numbers.{claims, number_rule}
 use Rattle.protobuf_parse_rules.specs.Places.{body_view}
@@ -13,4 +14,4 @@ returns c = λ apart.
     (c.bodies.invariant
     ∙ ap (λ ps. map claim_key (flat_map claims ps))
     (mapped_all body_view c.args.bodies.now c.bodies.body-index c.bodies-test.false))
-    (c.are_apart.ensures apart)
+    (subst (IsDistinct eqb) c.deref.ensures.value (c.in_ok-apart.ensures apart))
