@@ -3,7 +3,7 @@
 use crate::diagnostic::Diagnostic;
 use crate::imports::Importers;
 use crate::loading::{loading_diagnostic, told_at};
-use crate::meaning::meaning_diagnostic;
+use crate::meaning::{meaning_diagnostic, other_repeats};
 use crate::sources::{Sources, Trees};
 use crate::syntax::{syntax_code, syntax_sentence};
 use protobuf_parse_run::RunFault;
@@ -28,7 +28,9 @@ pub fn fault_diagnostic(
     }
 }
 
-/// [`fault_diagnostic`] of each of the faults, with the files read once for all.
+/// [`fault_diagnostic`] of each of the faults, with the files read once for all. Behind them stands
+/// what is told of the other names that are declared twice, where one of the faults is E5 or E6: a
+/// run tells one of a file's names.
 pub fn fault_diagnostics(
     alloc: Global,
     sources: &Sources<'_>,
@@ -46,6 +48,7 @@ pub fn fault_diagnostics(
             _ => loading_diagnostic(alloc, sources, &importers, fault)?,
         })?;
     }
+    told.append(&mut other_repeats(alloc, &trees, faults)?)?;
     Ok(told)
 }
 

@@ -122,6 +122,46 @@ fn is_marked(marked: &[bool], at: usize) -> bool {
     marked.get(at).copied().unwrap_or(false)
 }
 
+/// An import of a file, by its number among these.
+#[derive(Clone, Copy)]
+pub struct FirstImport {
+    pub number: usize,
+    pub place: Place,
+}
+
+/// Of each file, the first import of the file at this position with which it is reached.
+pub fn first_imports(
+    alloc: Global,
+    trees: &Trees<'_>,
+    from: usize,
+) -> Result<Vec<Option<FirstImport>>, AllocError> {
+    let mut firsts: Vec<Option<FirstImport>> = vec![in alloc; None; trees.files.len()]?;
+    let Some(file) = trees.files.get(from) else {
+        return Ok(firsts);
+    };
+    for (number, import) in imports_in(alloc, &file.tree)?.iter().enumerate() {
+        let place = import.place;
+        let Some(next) = trees.position(import.path.as_path().to_str()) else {
+            continue;
+        };
+        if firsts.get(next).copied().flatten().is_none() {
+            for position in reached(alloc, trees, next)? {
+                mark_first(&mut firsts, position, FirstImport { number, place });
+            }
+        }
+    }
+    Ok(firsts)
+}
+
+/// Marks the file at this position, if no import before did.
+fn mark_first(firsts: &mut [Option<FirstImport>], position: usize, import: FirstImport) {
+    if let Some(first) = firsts.get_mut(position) {
+        if first.is_none() {
+            *first = Some(import);
+        }
+    }
+}
+
 /// Which imports are followed.
 #[derive(Clone, Copy, PartialEq, Eq)]
 enum Followed {

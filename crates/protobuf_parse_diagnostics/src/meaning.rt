@@ -2,6 +2,7 @@
 
 mod hints;
 mod known;
+mod repeats;
 
 use crate::diagnostic::Diagnostic;
 use crate::firsts::Firsts;
@@ -9,6 +10,7 @@ use crate::kinds::values_of_option;
 use crate::loading::told_at;
 use crate::meaning::hints::{Hints, declared_twice};
 use crate::meaning::known::{Known, Sight, known_files};
+pub use crate::meaning::repeats::other_repeats;
 use crate::sources::{Sources, Trees};
 use crate::syntax::Sentence;
 use protobuf_parse_model::{ElabError, ElabErrorKind};
