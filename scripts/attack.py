@@ -392,6 +392,12 @@ def wrong_options(n):
     )
 
 
+def twofold(n):
+    """n messages, each declared twice."""
+    for i in range(n):
+        yield f"message A{i} {{}} message A{i} {{}}\n"
+
+
 def lost_extensions(n):
     """A message with n fields, each with an option that nothing declares."""
     yield PROTO2

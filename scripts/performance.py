@@ -160,7 +160,7 @@ def options(m):
 
 def faults(m):
     print("| what | faults | text | half | whole | memory |\n|---|---|---|---|---|---|")
-    for name in ("lost_types", "twice_named", "wrong_options", "lost_extensions"):
+    for name in ("lost_types", "twice_named", "twofold", "wrong_options", "lost_extensions"):
         m.attack(name, 50000)
         half, _, _ = m.run(CLI, f"{name}.proto", status=1)
         size = m.attack(name, 100000)
