@@ -1,19 +1,19 @@
 -- What is read of statements and bodies whose readers are given for each version of the language
 -- apart: in a form that is the same for both.
-use Rattle.std.proofs.Common.{◌≡◌, ℕ, [], Bool, true, false, cond, codes, refl, ◌∙◌}
+use Rattle.std.proofs.Common.{◌≡◌, ℕ, [], ◌∷◌, Bool, true, false, cond, codes, refl, ◌∙◌}
 use Rattle.protobuf_parse_base.specs.Relations.{somes}
 use Rattle.protobuf_parse_base.specs.Readers.{Rest, end, token, Read, read, bind, starts}
 use Rattle.protobuf_parse_base.specs.Combinators.{run_many}
 use Rattle.protobuf_parse_base.specs.Conditions.{mark_of}
 use Rattle.protobuf_parse_lexer.specs.Text.{Bytes}
 use Rattle.protobuf_parse_lexer.specs.Tokens.{Lexeme}
+use Rattle.protobuf_parse_lexer.specs.Classes.{word}
 use Rattle.protobuf_parse_lexer.specs.declared.lexer.token.Place.{Place}
 use Rattle.protobuf_parse_syntax.specs.Trees as tree
 use Rattle.protobuf_parse_syntax.specs.ClassLaws.{lexicon}
 use Rattle.protobuf_parse_syntax.specs.Productions as parse
 use Rattle.protobuf_parse_syntax.specs.Nested as nest
 use Rattle.protobuf_parse_syntax.specs.Code.{Fails, fails_first}
-use Rattle.protobuf_parse_syntax.specs.Words.{says}
 use Rattle.protobuf_parse_syntax.specs.declared.parser.refusal.Refusal.{Refusal}
 use Rattle.protobuf_parse_syntax.specs.declared.tree.Syntax.{Syntax}
 use Rattle.protobuf_parse_syntax.specs.declared.tree.Syntax.TheVariants.{Proto2, Proto3}
@@ -23,6 +23,10 @@ none_starts : (ts : Rest Lexeme Place) → starts lexicon [] ts ≡ false
 unfolding starts
 none_starts (end m) = refl
 none_starts (token t ts) = refl
+
+-- this word comes next
+abbrev pub says : Bytes → Rest Lexeme Place → Bool
+says w ts = starts lexicon (word w ∷ []) ts
 
 -- this word comes next, and the version is proto2
 abbrev pub says_in_proto2 : Syntax → Bytes → Rest Lexeme Place → Bool

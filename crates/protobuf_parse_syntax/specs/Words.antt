@@ -1,21 +1,17 @@
 -- No public clause rests on this file.
 -- What functions say of the next token's word.
-use Rattle.std.specs.Prelude.{◌≡◌, Bool, true, false, Option, Some, None, List, [], ◌∷◌, map}
+use Rattle.std.specs.Prelude.{◌≡◌, Bool, true, false, Option, Some, None, List, map}
 use Rattle.std.specs.Borrow.{Bor}
 use Rattle.protobuf_parse_base.specs.Readers.{Rest, end, token, read, starts}
 use Rattle.protobuf_parse_base.specs.Relations.{seen}
 use Rattle.protobuf_parse_lexer.specs.Text.{Bytes}
 use Rattle.protobuf_parse_lexer.specs.Tokens.{Lexeme}
-use Rattle.protobuf_parse_lexer.specs.Classes.{Class, sees_at, word, words}
+use Rattle.protobuf_parse_lexer.specs.Classes.{Class, sees_at, words}
 use Rattle.protobuf_parse_lexer.specs.declared.lexer.token.Place.{Place}
 use Rattle.protobuf_parse_lexer.specs.declared.lexer.token.TokenKind.TheVariants as kind
 use Rattle.protobuf_parse_syntax.specs.ClassLaws.{lexicon}
 use Rattle.protobuf_parse_syntax.specs.Grammar.{table_words}
 use Rattle.protobuf_parse_syntax.specs.Productions.{one_of}
-
--- this word comes next
-abbrev pub says : Bytes → Rest Lexeme Place → Bool
-says w ts = starts lexicon (word w ∷ []) ts
 
 -- one of the classes sees an identifier with this text
 abbrev pub takes : List Class → Bytes → Bool

@@ -123,31 +123,15 @@ fn after_label(
         ((after_label_in syntax levels inner place label).low.run (left tokens.old)) }
 {
     if tokens.sees_word("group") {
-        return group_statement(alloc, tokens, syntax, inner, place, label);
+        let group = group(alloc, tokens, syntax, inner, place, label)?;
+        Ok(FieldStatement::Group(group))
+    } else {
+        let field = plain_field(alloc, tokens, levels, place, label)?;
+        Ok(FieldStatement::Field(field))
     }
-    let field = plain_field(alloc, tokens, levels, place, label)?;
-    Ok(FieldStatement::Field(field))
 }
 
-/// A group, as a statement.
 #[inline(never)]
-#[cycle(field)]
-#[tactic(auto, using(crate::proofs::FieldViews::views_group))]
-fn group_statement(
-    alloc: Global,
-    tokens: &mut Cursor<'_>,
-    syntax: Syntax,
-    levels: usize,
-    place: Place,
-    label: Option<Label>,
-) -> Result<FieldStatement, Refusal>
-    ensures { Gives view.field_statement_syntax result (left tokens.new)
-        ((nest.group_of syntax place label (nest.fields syntax levels)).low.run (left tokens.old)) }
-{
-    let group = group(alloc, tokens, syntax, levels, place, label)?;
-    Ok(FieldStatement::Group(group))
-}
-
 #[cycle(field)]
 #[tactic(auto, unfolding(crate::specs::Nested::group_of), using(crate::specs::Code::fails_first))]
 fn group(

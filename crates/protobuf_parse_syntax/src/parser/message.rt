@@ -1,11 +1,9 @@
 //! Messages, oneofs and extensions.
 
-ghost use Rattle.std.specs.Prelude.{◌≡◌, codes, false, map};
+ghost use Rattle.std.specs.Prelude.{map};
 ghost use Rattle.protobuf_parse_lexer.specs.Text.{seen_by};
 ghost use Rattle.protobuf_parse_syntax.specs.Trees as view;
 ghost use Rattle.protobuf_parse_syntax.specs.Code.{left, Gives};
-ghost use Rattle.protobuf_parse_syntax.specs.Words.{says};
-ghost use Rattle.protobuf_parse_syntax.specs.declared.tree.Syntax.TheVariants.{Proto2};
 ghost use Rattle.protobuf_parse_syntax.specs.Nested as nest;
 
 use crate::parser::cursor::Cursor;
@@ -106,46 +104,6 @@ fn message_item(
 /// stand in proto2 alone.
 #[cycle(message)]
 fn message_statement(
-    alloc: Global,
-    tokens: &mut Cursor<'_>,
-    syntax: Syntax,
-    levels: usize,
-) -> Result<MessageStatement, Refusal>
-    ensures { Gives view.message_statement_syntax result (left tokens.new)
-        ((nest.message_statement syntax levels).low.run (left tokens.old)) }
-{
-    if sees_other_statement(tokens, syntax) {
-        return any_statement(alloc, tokens, syntax, levels);
-    }
-    Ok(MessageStatement::Field(field(alloc, tokens, syntax, levels)?))
-}
-
-/// Whether the next word begins a statement that is no field.
-#[inline(always)]
-fn sees_other_statement(tokens: &Cursor<'_>, syntax: Syntax) -> bool
-    ensures reserved { result ≡ false → says (codes "reserved") (left tokens.now) ≡ false }
-    ensures oneof { result ≡ false → says (codes "oneof") (left tokens.now) ≡ false }
-    ensures extend { result ≡ false → says (codes "extend") (left tokens.now) ≡ false }
-    ensures message { result ≡ false → says (codes "message") (left tokens.now) ≡ false }
-    ensures enumeration { result ≡ false → says (codes "enum") (left tokens.now) ≡ false }
-    ensures extensions { result ≡ false → syntax ≡ Proto2
-        → says (codes "extensions") (left tokens.now) ≡ false }
-    ensures option { result ≡ false → says (codes "option") (left tokens.now) ≡ false }
-{
-    tokens.sees_word("reserved")
-        || tokens.sees_word("oneof")
-        || tokens.sees_word("extend")
-        || tokens.sees_word("message")
-        || tokens.sees_word("enum")
-        || tokens.sees_word("option")
-        || (matches!(syntax, Syntax::Proto2) && tokens.sees_word("extensions"))
-}
-
-/// Any statement of a message. It stands apart since the loop over statements would clear room for
-/// what each kind of them gives.
-#[inline(never)]
-#[cycle(message)]
-fn any_statement(
     alloc: Global,
     tokens: &mut Cursor<'_>,
     syntax: Syntax,

@@ -129,20 +129,17 @@ group-returns-in_err-fields t c =
     ) (fails_first c.in_err-fields.field-0.0 _ _ _
     c.in_err-fields.ensures)
 
-pub group_statement-returns-in_err-group : goal.group_statement-returns-in_err-group
-group_statement-returns-in_err-group t c =
-    let p = err_from_is_err_and c.from_residual.result c.from_residual.ensures.1 in
-    rw (p.1, p.2) c.in_err-group.ensures
-
-pub after_label-returns-then-sees_word : goal.after_label-returns-then-sees_word
+pub after_label-returns-in_err-group : goal.after_label-returns-in_err-group
 unfolding nest.after_label
-after_label-returns-then-sees_word t c =
-    rw (sym c.sees_word.ensures ∙ c.if-sees_word.true) c.group_statement.ensures
+after_label-returns-in_err-group t c =
+    let p = err_from_is_err_and c.from_residual.result c.from_residual.ensures.1 in
+    rw (p.1, p.2, sym c.sees_word.ensures ∙ c.if-sees_word.true) c.in_err-group.ensures
 
 pub after_label-returns-in_err-field : goal.after_label-returns-in_err-field
 unfolding nest.after_label
 after_label-returns-in_err-field t c =
-    let p = err_from_is_err_and c.from_residual.result c.from_residual.ensures.1 in
+    let p = err_from_is_err_and c.from_residual-in_err-field.result
+    c.from_residual-in_err-field.ensures.1 in
     rw (p.1, p.2, sym c.sees_word.ensures ∙ c.if-sees_word.false) c.in_err-field.ensures
 
 pub group_body-returns-in_err-symbol : goal.group_body-returns-in_err-symbol

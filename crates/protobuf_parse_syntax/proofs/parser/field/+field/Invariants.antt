@@ -9,28 +9,25 @@ use Rattle.protobuf_parse_syntax.specs.Code.{left}
 use Rattle.protobuf_parse_syntax.proofs.parser.field.+field.Given as goal
 
 abbrev pub decreases-field : goal.decreases-field
-decreases-field l = 9 * l.levels
+decreases-field l = 8 * l.levels
 
 abbrev pub decreases-field_item : goal.decreases-field_item
-decreases-field_item l = 9 * l.levels + 1
+decreases-field_item l = 8 * l.levels + 1
 
 abbrev pub decreases-field_statements : goal.decreases-field_statements
-decreases-field_statements l = 9 * l.levels + 2
+decreases-field_statements l = 8 * l.levels + 2
 
 abbrev pub decreases-group_body : goal.decreases-group_body
-decreases-group_body l = 9 * l.levels + 3
+decreases-group_body l = 8 * l.levels + 3
 
 abbrev pub decreases-group : goal.decreases-group
-decreases-group l = 9 * l.levels + 4
-
-abbrev pub decreases-group_statement : goal.decreases-group_statement
-decreases-group_statement l = 9 * l.levels + 5
+decreases-group l = 8 * l.levels + 4
 
 abbrev pub decreases-after_label : goal.decreases-after_label
-decreases-after_label l = 9 * l.inner + 6
+decreases-after_label l = 8 * l.inner + 5
 
 abbrev pub decreases-field_of : goal.decreases-field_of
-decreases-field_of l = 9 * l.inner + 7
+decreases-field_of l = 8 * l.inner + 6
 
 abbrev pub invariant-field_statements-items : goal.invariant-field_statements-items
 invariant-field_statements-items l =

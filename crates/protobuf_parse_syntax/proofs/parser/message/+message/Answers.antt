@@ -10,21 +10,20 @@ use Rattle.protobuf_parse_syntax.specs.Trees.{message_statement_syntax, MessageS
 use Rattle.protobuf_parse_syntax.specs.Nested as nest
 use Rattle.protobuf_parse_syntax.specs.Nested.{message_zero, message_more}
 use Rattle.protobuf_parse_syntax.specs.Code.{left, too_deep, fails_first}
-use Rattle.protobuf_parse_syntax.specs.Words.{says}
 use Rattle.protobuf_parse_syntax.proofs.Loops.{pushed, fails}
 use Rattle.protobuf_parse_syntax.proofs.Messages.{views_reserved, views_oneof, views_extend}
 use Rattle.protobuf_parse_syntax.proofs.Messages.{views_message, views_enum, views_extensions}
 use Rattle.protobuf_parse_syntax.proofs.Messages.{views_option, views_field}
-use Rattle.protobuf_parse_syntax.proofs.Versions.{made_fails, made_reads, message_items_run}
+use Rattle.protobuf_parse_syntax.proofs.Versions.{says, made_fails, made_reads, message_items_run}
 use Rattle.protobuf_parse_syntax.proofs.Versions.{message_in_runs, message_reserved, message_oneof}
 use Rattle.protobuf_parse_syntax.proofs.Versions.{message_extend, message_message, message_enum}
 use Rattle.protobuf_parse_syntax.proofs.Versions.{message_extensions, message_option, message_field}
 use Rattle.protobuf_parse_syntax.specs.declared.tree.Syntax.TheVariants.{Proto2}
 use Rattle.protobuf_parse_syntax.proofs.parser.message.+message.Goals as goal
-use Rattle.protobuf_parse_syntax.proofs.parser.message.+message.Goals.{any_statement-in-Proto2}
-use Rattle.protobuf_parse_syntax.proofs.parser.message.+message.Goals.{any_statement-in_default}
-use Rattle.protobuf_parse_syntax.proofs.parser.message.+message.Goals.{any_statement-else-matches-via-then-matches+else-sees_word-6}
-use Rattle.protobuf_parse_syntax.proofs.parser.message.+message.Goals.{any_statement-else-matches-via-else-matches}
+use Rattle.protobuf_parse_syntax.proofs.parser.message.+message.Goals.{message_statement-in-Proto2}
+use Rattle.protobuf_parse_syntax.proofs.parser.message.+message.Goals.{message_statement-in_default}
+use Rattle.protobuf_parse_syntax.proofs.parser.message.+message.Goals.{message_statement-else-matches-via-then-matches+else-sees_word-6}
+use Rattle.protobuf_parse_syntax.proofs.parser.message.+message.Goals.{message_statement-else-matches-via-else-matches}
 
 pub message-returns-then-levels-eq0 : goal.message-returns-then-levels-eq0
 message-returns-then-levels-eq0 t c = (
@@ -76,8 +75,8 @@ message_statements-returns t c =
     (left c.items.tokens) _ (sym c.begins_message_statement.ensures ∙ c.items-test.false)
     c.items.invariant
 
-pub any_statement-returns-in_err-reserved : goal.any_statement-returns-in_err-reserved
-any_statement-returns-in_err-reserved t c =
+pub message_statement-returns-in_err-reserved : goal.message_statement-returns-in_err-reserved
+message_statement-returns-in_err-reserved t c =
     let p = err_from_is_err_and c.from_residual.result c.from_residual.ensures.1 in
     rw (p.1, p.2)
     (made_fails tree.message_reserved c.in_err-reserved.field-0.0 _
@@ -85,15 +84,15 @@ any_statement-returns-in_err-reserved t c =
     (message_reserved c.args.syntax c.args.levels (left c.args.tokens.now)
     (sym c.sees_word.ensures ∙ c.if-sees_word.true)) c.in_err-reserved.ensures)
 
-pub any_statement-returns-then-sees_word : goal.any_statement-returns-then-sees_word
-any_statement-returns-then-sees_word t c =
+pub message_statement-returns-then-sees_word : goal.message_statement-returns-then-sees_word
+message_statement-returns-then-sees_word t c =
     made_reads tree.message_reserved _ _ _ (parse.reserved.run (left c.args.tokens.now)) _
     (message_reserved c.args.syntax c.args.levels (left c.args.tokens.now)
     (sym c.sees_word.ensures ∙ c.if-sees_word.true))
     c.in_ok-reserved.ensures (views_reserved c.in_ok-reserved.field-0)
 
-pub any_statement-returns-in_err-oneof : goal.any_statement-returns-in_err-oneof
-any_statement-returns-in_err-oneof t c =
+pub message_statement-returns-in_err-oneof : goal.message_statement-returns-in_err-oneof
+message_statement-returns-in_err-oneof t c =
     let p = err_from_is_err_and c.from_residual-in_err-oneof.result
     c.from_residual-in_err-oneof.ensures.1 in
     rw (p.1, p.2)
@@ -103,8 +102,8 @@ any_statement-returns-in_err-oneof t c =
     (sym c.sees_word.ensures ∙ c.if-sees_word.false)
     (sym c.sees_word-2.ensures ∙ c.if-sees_word-2.true)) c.in_err-oneof.ensures)
 
-pub any_statement-returns-then-sees_word-2 : goal.any_statement-returns-then-sees_word-2
-any_statement-returns-then-sees_word-2 t c =
+pub message_statement-returns-then-sees_word-2 : goal.message_statement-returns-then-sees_word-2
+message_statement-returns-then-sees_word-2 t c =
     made_reads tree.message_oneof _ _ _
     ((nest.oneof c.args.syntax c.args.levels).low.run (left c.args.tokens.now)) _
     (message_oneof c.args.syntax c.args.levels (left c.args.tokens.now)
@@ -112,8 +111,8 @@ any_statement-returns-then-sees_word-2 t c =
     (sym c.sees_word-2.ensures ∙ c.if-sees_word-2.true))
     c.in_ok-oneof.ensures (views_oneof c.in_ok-oneof.field-0)
 
-pub any_statement-returns-in_err-extend : goal.any_statement-returns-in_err-extend
-any_statement-returns-in_err-extend t c =
+pub message_statement-returns-in_err-extend : goal.message_statement-returns-in_err-extend
+message_statement-returns-in_err-extend t c =
     let p = err_from_is_err_and c.from_residual-in_err-extend.result
     c.from_residual-in_err-extend.ensures.1 in
     rw (p.1, p.2)
@@ -124,8 +123,8 @@ any_statement-returns-in_err-extend t c =
     (sym c.sees_word-2.ensures ∙ c.if-sees_word-2.false)
     (sym c.sees_word-3.ensures ∙ c.if-sees_word-3.true)) c.in_err-extend.ensures)
 
-pub any_statement-returns-then-sees_word-3 : goal.any_statement-returns-then-sees_word-3
-any_statement-returns-then-sees_word-3 t c =
+pub message_statement-returns-then-sees_word-3 : goal.message_statement-returns-then-sees_word-3
+message_statement-returns-then-sees_word-3 t c =
     made_reads tree.message_extend _ _ _
     ((nest.extend c.args.syntax c.args.levels).low.run (left c.args.tokens.now)) _
     (message_extend c.args.syntax c.args.levels (left c.args.tokens.now)
@@ -134,8 +133,8 @@ any_statement-returns-then-sees_word-3 t c =
     (sym c.sees_word-3.ensures ∙ c.if-sees_word-3.true))
     c.in_ok-extend.ensures (views_extend c.in_ok-extend.field-0)
 
-pub any_statement-returns-in_err-message : goal.any_statement-returns-in_err-message
-any_statement-returns-in_err-message t c =
+pub message_statement-returns-in_err-message : goal.message_statement-returns-in_err-message
+message_statement-returns-in_err-message t c =
     let p = err_from_is_err_and c.from_residual-in_err-message.result
     c.from_residual-in_err-message.ensures.1 in
     rw (p.1, p.2)
@@ -147,8 +146,8 @@ any_statement-returns-in_err-message t c =
     (sym c.sees_word-3.ensures ∙ c.if-sees_word-3.false)
     (sym c.sees_word-4.ensures ∙ c.if-sees_word-4.true)) c.in_err-message.ensures)
 
-pub any_statement-returns-then-sees_word-4 : goal.any_statement-returns-then-sees_word-4
-any_statement-returns-then-sees_word-4 t c =
+pub message_statement-returns-then-sees_word-4 : goal.message_statement-returns-then-sees_word-4
+message_statement-returns-then-sees_word-4 t c =
     made_reads tree.nested_message _ _ _
     ((nest.message c.args.syntax c.args.levels).run (left c.args.tokens.now)) _
     (message_message c.args.syntax c.args.levels (left c.args.tokens.now)
@@ -158,8 +157,8 @@ any_statement-returns-then-sees_word-4 t c =
     (sym c.sees_word-4.ensures ∙ c.if-sees_word-4.true))
     c.in_ok-message.ensures (views_message c.in_ok-message.field-0)
 
-pub any_statement-returns-in_err-enumeration : goal.any_statement-returns-in_err-enumeration
-any_statement-returns-in_err-enumeration t c =
+pub message_statement-returns-in_err-enumeration : goal.message_statement-returns-in_err-enumeration
+message_statement-returns-in_err-enumeration t c =
     let p = err_from_is_err_and c.from_residual-in_err-enumeration.result
     c.from_residual-in_err-enumeration.ensures.1 in
     rw (p.1, p.2)
@@ -172,8 +171,8 @@ any_statement-returns-in_err-enumeration t c =
     (sym c.sees_word-4.ensures ∙ c.if-sees_word-4.false)
     (sym c.sees_word-5.ensures ∙ c.if-sees_word-5.true)) c.in_err-enumeration.ensures)
 
-pub any_statement-returns-then-sees_word-5 : goal.any_statement-returns-then-sees_word-5
-any_statement-returns-then-sees_word-5 t c =
+pub message_statement-returns-then-sees_word-5 : goal.message_statement-returns-then-sees_word-5
+message_statement-returns-then-sees_word-5 t c =
     made_reads tree.message_enum _ _ _
     ((nest.enumeration c.args.levels).low.run (left c.args.tokens.now)) _
     (message_enum c.args.syntax c.args.levels (left c.args.tokens.now)
@@ -184,11 +183,11 @@ any_statement-returns-then-sees_word-5 t c =
     (sym c.sees_word-5.ensures ∙ c.if-sees_word-5.true))
     c.in_ok-enumeration.ensures (views_enum c.in_ok-enumeration.field-0)
 
-pub any_statement-returns-in_err-extensions : goal.any_statement-returns-in_err-extensions
-any_statement-returns-in_err-extensions t c =
+pub message_statement-returns-in_err-extensions : goal.message_statement-returns-in_err-extensions
+message_statement-returns-in_err-extensions t c =
     let v : c.args.syntax ≡ Proto2 = elim c.match-matches.branch [
-      | any_statement-in-Proto2 w ↦ w.in-Proto2.is
-      | any_statement-in_default w ↦ absurd
+      | message_statement-in-Proto2 w ↦ w.in-Proto2.is
+      | message_statement-in_default w ↦ absurd
           cc
     ] in
     let p = err_from_is_err_and c.from_residual-in_err-extensions.result
@@ -204,11 +203,11 @@ any_statement-returns-in_err-extensions t c =
     (sym c.sees_word-5.ensures ∙ c.if-sees_word-5.false) v
     (sym c.sees_word-then-matches.ensures ∙ c.if-sees_word-6.true)) c.in_err-extensions.ensures)
 
-pub any_statement-returns-then-sees_word-6 : goal.any_statement-returns-then-sees_word-6
-any_statement-returns-then-sees_word-6 t c =
+pub message_statement-returns-then-sees_word-6 : goal.message_statement-returns-then-sees_word-6
+message_statement-returns-then-sees_word-6 t c =
     let v : c.args.syntax ≡ Proto2 = elim c.match-matches.branch [
-      | any_statement-in-Proto2 w ↦ w.in-Proto2.is
-      | any_statement-in_default w ↦ absurd
+      | message_statement-in-Proto2 w ↦ w.in-Proto2.is
+      | message_statement-in_default w ↦ absurd
           cc
     ] in
     made_reads tree.message_extensions _ _ _ (parse.extensions.run (left c.args.tokens.now)) _
@@ -221,16 +220,16 @@ any_statement-returns-then-sees_word-6 t c =
     (sym c.sees_word-then-matches.ensures ∙ c.if-sees_word-6.true))
     c.in_ok-extensions.ensures (views_extensions c.in_ok-extensions.field-0)
 
-pub any_statement-returns-in_err-option : goal.any_statement-returns-in_err-option
-any_statement-returns-in_err-option t c =
+pub message_statement-returns-in_err-option : goal.message_statement-returns-in_err-option
+message_statement-returns-in_err-option t c =
     let f : c.args.syntax ≡ Proto2
     → says (codes "extensions") (left c.args.tokens.now) ≡ false = λ e.
     elim c.else-matches.branch [
-      | any_statement-else-matches-via-then-matches+else-sees_word-6 w ↦ sym
+      | message_statement-else-matches-via-then-matches+else-sees_word-6 w ↦ sym
           w.sees_word-then-matches.ensures ∙ w.if-sees_word-6.false
-      | any_statement-else-matches-via-else-matches w ↦ elim c.match-matches.branch [
-        | any_statement-in-Proto2 v ↦ absurd cc
-        | any_statement-in_default v ↦ absurd
+      | message_statement-else-matches-via-else-matches w ↦ elim c.match-matches.branch [
+        | message_statement-in-Proto2 v ↦ absurd cc
+        | message_statement-in_default v ↦ absurd
             (v.in_default.not-Proto2 e)
       ]
     ] in
@@ -247,16 +246,16 @@ any_statement-returns-in_err-option t c =
     (sym c.sees_word-5.ensures ∙ c.if-sees_word-5.false) f
     (sym c.sees_word-6.ensures ∙ c.if-sees_word-7.true)) c.in_err-option.ensures)
 
-pub any_statement-returns-then-sees_word-7 : goal.any_statement-returns-then-sees_word-7
-any_statement-returns-then-sees_word-7 t c =
+pub message_statement-returns-then-sees_word-7 : goal.message_statement-returns-then-sees_word-7
+message_statement-returns-then-sees_word-7 t c =
     let f : c.args.syntax ≡ Proto2
     → says (codes "extensions") (left c.args.tokens.now) ≡ false = λ e.
     elim c.else-matches.branch [
-      | any_statement-else-matches-via-then-matches+else-sees_word-6 w ↦ sym
+      | message_statement-else-matches-via-then-matches+else-sees_word-6 w ↦ sym
           w.sees_word-then-matches.ensures ∙ w.if-sees_word-6.false
-      | any_statement-else-matches-via-else-matches w ↦ elim c.match-matches.branch [
-        | any_statement-in-Proto2 v ↦ absurd cc
-        | any_statement-in_default v ↦ absurd
+      | message_statement-else-matches-via-else-matches w ↦ elim c.match-matches.branch [
+        | message_statement-in-Proto2 v ↦ absurd cc
+        | message_statement-in_default v ↦ absurd
             (v.in_default.not-Proto2 e)
       ]
     ] in
@@ -271,16 +270,16 @@ any_statement-returns-then-sees_word-7 t c =
     (sym c.sees_word-6.ensures ∙ c.if-sees_word-7.true))
     c.in_ok-option.ensures (views_option c.in_ok-option.field-0)
 
-pub any_statement-returns-in_err-field : goal.any_statement-returns-in_err-field
-any_statement-returns-in_err-field t c =
+pub message_statement-returns-in_err-field : goal.message_statement-returns-in_err-field
+message_statement-returns-in_err-field t c =
     let f : c.args.syntax ≡ Proto2
     → says (codes "extensions") (left c.args.tokens.now) ≡ false = λ e.
     elim c.else-matches.branch [
-      | any_statement-else-matches-via-then-matches+else-sees_word-6 w ↦ sym
+      | message_statement-else-matches-via-then-matches+else-sees_word-6 w ↦ sym
           w.sees_word-then-matches.ensures ∙ w.if-sees_word-6.false
-      | any_statement-else-matches-via-else-matches w ↦ elim c.match-matches.branch [
-        | any_statement-in-Proto2 v ↦ absurd cc
-        | any_statement-in_default v ↦ absurd
+      | message_statement-else-matches-via-else-matches w ↦ elim c.match-matches.branch [
+        | message_statement-in-Proto2 v ↦ absurd cc
+        | message_statement-in_default v ↦ absurd
             (v.in_default.not-Proto2 e)
       ]
     ] in
@@ -297,16 +296,16 @@ any_statement-returns-in_err-field t c =
     (sym c.sees_word-5.ensures ∙ c.if-sees_word-5.false) f
     (sym c.sees_word-6.ensures ∙ c.if-sees_word-7.false)) c.in_err-field.ensures)
 
-pub any_statement-returns : goal.any_statement-returns
-any_statement-returns t c =
+pub message_statement-returns : goal.message_statement-returns
+message_statement-returns t c =
     let f : c.args.syntax ≡ Proto2
     → says (codes "extensions") (left c.args.tokens.now) ≡ false = λ e.
     elim c.else-matches.branch [
-      | any_statement-else-matches-via-then-matches+else-sees_word-6 w ↦ sym
+      | message_statement-else-matches-via-then-matches+else-sees_word-6 w ↦ sym
           w.sees_word-then-matches.ensures ∙ w.if-sees_word-6.false
-      | any_statement-else-matches-via-else-matches w ↦ elim c.match-matches.branch [
-        | any_statement-in-Proto2 v ↦ absurd cc
-        | any_statement-in_default v ↦ absurd
+      | message_statement-else-matches-via-else-matches w ↦ elim c.match-matches.branch [
+        | message_statement-in-Proto2 v ↦ absurd cc
+        | message_statement-in_default v ↦ absurd
             (v.in_default.not-Proto2 e)
       ]
     ] in
@@ -319,29 +318,6 @@ any_statement-returns t c =
     (sym c.sees_word-4.ensures ∙ c.if-sees_word-4.false)
     (sym c.sees_word-5.ensures ∙ c.if-sees_word-5.false) f
     (sym c.sees_word-6.ensures ∙ c.if-sees_word-7.false))
-    c.in_ok-field.ensures (views_field c.in_ok-field.field-0)
-
-pub message_statement-returns-in_err-field : goal.message_statement-returns-in_err-field
-message_statement-returns-in_err-field t c =
-    let other = c.if-sees_other_statement.false in
-    let no = c.sees_other_statement.ensures in
-    let p = err_from_is_err_and c.from_residual.result c.from_residual.ensures.1 in
-    rw (p.1, p.2)
-    (made_fails tree.message_field c.in_err-field.field-0.0 _
-    ((nest.field c.args.syntax c.args.levels).run (left c.args.tokens.now)) _
-    (message_field c.args.syntax c.args.levels (left c.args.tokens.now)
-    (no.reserved other) (no.oneof other) (no.extend other) (no.message other)
-    (no.enumeration other) (no.extensions other) (no.option other)) c.in_err-field.ensures)
-
-pub message_statement-returns : goal.message_statement-returns
-message_statement-returns t c =
-    let other = c.if-sees_other_statement.false in
-    let no = c.sees_other_statement.ensures in
-    made_reads tree.message_field _ _ _
-    ((nest.field c.args.syntax c.args.levels).run (left c.args.tokens.now)) _
-    (message_field c.args.syntax c.args.levels (left c.args.tokens.now)
-    (no.reserved other) (no.oneof other) (no.extend other) (no.message other)
-    (no.enumeration other) (no.extensions other) (no.option other))
     c.in_ok-field.ensures (views_field c.in_ok-field.field-0)
 
 pub message_of-returns-in_err-word : goal.message_of-returns-in_err-word

@@ -9,22 +9,19 @@ use Rattle.protobuf_parse_syntax.specs.Code.{left}
 use Rattle.protobuf_parse_syntax.proofs.parser.message.+message.Given as goal
 
 abbrev pub decreases-message : goal.decreases-message
-decreases-message l = 6 * l.levels
+decreases-message l = 5 * l.levels
 
 abbrev pub decreases-message_of : goal.decreases-message_of
-decreases-message_of l = 6 * l.levels + 5
+decreases-message_of l = 5 * l.levels + 4
 
 abbrev pub decreases-message_statements : goal.decreases-message_statements
-decreases-message_statements l = 6 * l.levels + 4
+decreases-message_statements l = 5 * l.levels + 3
 
 abbrev pub decreases-message_item : goal.decreases-message_item
-decreases-message_item l = 6 * l.levels + 3
+decreases-message_item l = 5 * l.levels + 2
 
 abbrev pub decreases-message_statement : goal.decreases-message_statement
-decreases-message_statement l = 6 * l.levels + 2
-
-abbrev pub decreases-any_statement : goal.decreases-any_statement
-decreases-any_statement l = 6 * l.levels + 1
+decreases-message_statement l = 5 * l.levels + 1
 
 abbrev pub invariant-message_statements-items : goal.invariant-message_statements-items
 invariant-message_statements-items l = (nest.message_items l.syntax l.levels).low.run
