@@ -10,7 +10,8 @@ const MOST_UNSORTED: usize = 64;
 
 const SLOTS: usize = 256;
 
-/// Whether no key stands twice. A `false` says nothing less: then one does.
+/// Whether no key stands twice. What follows where it says no is no part of the contract, since its
+/// callers look closer then.
 pub fn are_apart(keys: Vec<u64>) -> bool
     ensures { result ≡ true → IsDistinct eqb keys.items }
 {

@@ -14,11 +14,11 @@ const FIRST_SPREAD: u64 = 0x9e37_79b9_7f4a_7c15;
 
 const SECOND_SPREAD: u64 = 0xc2b2_ae3d_27d4_eb4f;
 
-/// More slots than the lower half of a key counts are not asked for.
+/// How many slots there are at most: as many as 32 bits count.
 const MOST_SLOTS: usize = 0xffff_ffff;
 
 /// Whether no key stands twice. Each has a slot, and only keys that share theirs get another; keys
-/// that share that, too, are sorted. The second slot spared 5 million instructions of 56 for
+/// that share that, too, are sorted. The second slot spared 1 million instructions of 56 for
 /// 100,000 names.
 pub fn many_are_apart(alloc: Global, keys: &[u64]) -> Result<bool, AllocError>
     ensures { IfOk result (λ apart. apart ≡ true → IsDistinct eqb keys.now) }
