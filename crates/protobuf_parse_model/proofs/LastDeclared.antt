@@ -5,9 +5,8 @@ use Rattle.std.proofs.Math.Seq.{drop-cons}
 use Rattle.std.specs.Prelude.{Option, bytes_eq, if◌then◌else◌, Some}
 use Rattle.protobuf_parse_base.specs.DeclaredNames.{name_bytes}
 use Rattle.protobuf_parse_lexer.specs.declared.lexer.token.Place.{Place}
-use Rattle.protobuf_parse_syntax.proofs.Messages.{view_parts, views_message}
+use Rattle.protobuf_parse_syntax.proofs.Messages.{view_parts}
 use Rattle.protobuf_parse_syntax.specs.declared.tree.declaration.Message.{Message}
-use Rattle.protobuf_parse_syntax.specs.declared.tree.declaration.MessageStatement.TheVariants as statement
 use Rattle.protobuf_parse_syntax.specs.Trees.{MessageStatementSyntax, MessageSyntax}
 use Rattle.protobuf_parse_syntax.specs.Trees.{message_statements, message_statement_syntax}
 use Rattle.protobuf_parse_syntax.specs.Trees.{message_syntax, nested_message}
@@ -40,12 +39,6 @@ places-view extension scope m =
     (places_in_is extension (inside scope (message_syntax m).name) (message_syntax m).body)
     ∙ ap (λ (x : MessageSyntax). type_place extension scope x.name x.place
     ++ flat_map (places_of extension (inside scope x.name)) x.body) (view_parts m)
-
--- a message inside another as a message
-pub places_of-view : (extension : Bool) (scope : Scope) (m : Message)
-    → places_of extension scope (message_statement_syntax (statement.Message m))
-    ≡ places_of extension scope (nested_message (message_syntax m))
-places_of-view extension scope m = ap (places_of extension scope) (views_message m)
 
 -- with one statement more
 pub last_more : {S X : Type 0} (name : Text) (places : X → Places) (view : S → X) (xs : List S)
