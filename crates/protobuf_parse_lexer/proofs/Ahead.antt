@@ -3,7 +3,6 @@ use Rattle.std.proofs.Common.{◌≡◌, ℕ, zero, suc, ◌+◌, ◌<◌, ◌�
 use Rattle.std.proofs.Common.{List, Option, Some, None, ◌↔◌}
 use Rattle.std.proofs.Common.{[], ◌∷◌, length, take, drop, refl, sym, ap, ◌∙◌, subst, inl, inr, ◌⊎◌}
 use Rattle.std.proofs.Common.{arith, length-drop, count_by, cond, if◌then◌else◌, eqb, nat_le, ◌||◌}
-use Rattle.std.proofs.Common.{slice_index}
 use Rattle.std.proofs.lemmas.Bool.{false≢true}
 use Rattle.std.proofs.lemmas.Bool.Decides.{nat_tests}
 use Rattle.std.proofs.lemmas.List.Sums.{sum_by-cons}
@@ -167,15 +166,6 @@ blank_step o c p at z front rest n is e f g =
     ap (λ a. ahead o c a rest) (g ∙ ap (after p) e)
     ∙ ap (λ y. ahead o c (after p (take n z)) y) f
     ∙ sym (ahead_is o c p z (piece.Blank n) is)
-
--- the same for one space
-pub space_step : (o c : ℕ) (p : Place) (z rest : Bytes) → IsBlank z 1 → slice_index z 0 ≡ 32
-    → rest ≡ drop 1 z
-    → ahead o c (record { line = p.line; col = p.col + 1 }) rest ≡ ahead o c p z
-space_step o c p [] rest is space f = absurd (omega arith)
-space_step o c p (b ∷ z) rest is space f =
-    blank_step o c p (record { line = p.line; col = p.col + 1 }) (b ∷ z) (b ∷ []) rest 1 is refl f
-    (rw space refl)
 
 pub token_step : (o c o' c' : ℕ) (p at : Place) (z word rest : Bytes) (n : ℕ) (k : TokenKind)
     → IsToken z n k → word ≡ take n z → rest ≡ drop n z → at ≡ after p word → deepens o c k ≡ false

@@ -10,3 +10,4 @@ pub mod Quotes
 pub mod Escaping
 pub mod Lanes
 pub mod Ahead
+pub mod ShortWays

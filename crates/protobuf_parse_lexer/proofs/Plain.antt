@@ -114,6 +114,9 @@ integer_text z n v (inr (inr o)) zero less = same_plain (get_or z 0 0) 48 o.0.fi
 integer_text z n v (inr (inr o)) (suc i) less =
     octal_plain (get_or z (suc i) 0) (o.0.each (suc i) (omega arith) less)
 
+pub space_plain : (b : ℕ) → b ≡ 32 → Plain b
+space_plain b e = same_plain b 32 e refl
+
 symbol_text : (z : Bytes) (b : ℕ) → b ≡ get_or z 0 0 → is_symbol b ≡ true → (i : ℕ) → i < 1
     → Plain (get_or z i 0)
 symbol_text z b e is zero less = subst Plain e (symbol_plain b is)

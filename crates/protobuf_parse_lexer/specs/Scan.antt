@@ -1,7 +1,7 @@
 -- No public clause rests on this file.
 -- What the scanners of the front of a text answer.
-use Rattle.std.specs.Prelude.{◌≡◌, ◌≤◌, ◌<◌, ◌⊎◌, ℕ, ◌+◌, Bool, true, false, not, nat_lt, ◌&&◌}
-use Rattle.std.specs.Prelude.{◌||◌, if◌then◌else◌, ◌==◌, List, [], ◌∷◌, length, slice_index, Option}
+use Rattle.std.specs.Prelude.{◌≡◌, ◌≤◌, ◌<◌, ◌⊎◌, ℕ, ◌+◌, Bool, true, false, not, nat_le, nat_lt}
+use Rattle.std.specs.Prelude.{◌&&◌, ◌||◌, if◌then◌else◌, ◌==◌, List, [], ◌∷◌, length, slice_index, Option}
 use Rattle.std.specs.Prelude.{Some, None}
 use Rattle.std.specs.Int.{w64, trailing_zeros}
 use Rattle.protobuf_parse_base.specs.Characters as char
@@ -48,6 +48,11 @@ IsRunIn test z i n run =
 -- the place of the lowest bit that is set, or n
 abbrev pub first_set : ℕ → ℕ → ℕ
 first_set mask n = if mask == 0 then n else trailing_zeros w64 mask
+
+-- a symbol whatever stands behind it: one with which no string, number or comment begins
+abbrev pub is_plain_symbol : ℕ → Bool
+is_plain_symbol b =
+    (nat_le char.colon b && nat_le b char.tilde) || (nat_le char.open_paren b && nat_le b char.minus)
 
 -- no line feed, and no byte of a longer character
 abbrev pub is_plain : ℕ → Bool

@@ -70,7 +70,8 @@ fn string_end(text: &[u8]) -> Option<usize>
 }
 
 /// The end of the identifier at the front.
-fn ident_end(text: &[u8]) -> usize
+#[inline(always)]
+pub fn ident_end(text: &[u8]) -> usize
     requires some { 0 < length text.now }
     requires ident { is_in ByteClass.Ident (slice_index text.now 0) ≡ true }
     requires no_digit { is_in ByteClass.Digit (slice_index text.now 0) ≡ false }
@@ -131,4 +132,13 @@ pub fn front_piece(text: &[u8]) -> Piece
         };
     }
     token_piece(text)
+}
+
+/// Whether the byte at the front is a symbol whatever stands behind it: it is no quote, no point,
+/// with which a number may begin, and no slash, with which a comment may.
+#[inline(always)]
+pub fn is_plain_symbol(first: u8) -> bool
+    ensures { result ≡ scan.is_plain_symbol first }
+{
+    (b':' <= first && first <= b'~') || (b'(' <= first && first <= b'-')
 }

@@ -37,8 +37,9 @@ fn ident_run(bytes: &[u8], at: usize) -> usize
     first_set(stops.to_bitmask(), LANES)
 }
 
-/// The end of the identifier's bytes from `at` on.
-#[inline]
+/// The end of the identifier's bytes from `at` on. Most have less than sixteen, and are looked at
+/// before there is a loop.
+#[inline(always)]
 pub fn ident_run_end(bytes: &[u8], at: usize) -> usize
     requires { at ≤ length bytes.now }
     ensures after { at ≤ result }
@@ -47,6 +48,13 @@ pub fn ident_run_end(bytes: &[u8], at: usize) -> usize
     ensures stops { text.RunStopsAt ByteClass.Ident bytes.now result }
 {
     let mut end = at;
+    if bytes.len() - end >= LANES {
+        let run = ident_run(bytes, end);
+        if run < LANES {
+            return end + run;
+        }
+        end += LANES;
+    }
     'by_block: while bytes.len() - end >= LANES {
         let run = ident_run(bytes, end);
         if run < LANES {

@@ -1,12 +1,13 @@
 //! The number at the front of a text.
 
-ghost use Rattle.std.specs.Prelude.{◌≡◌, ℕ, ◌<◌, ◌≤◌, ◌^◌, length, slice_index, slice_range, true};
-ghost use Rattle.std.specs.Prelude.{MatchOption, SomeIff};
+ghost use Rattle.std.specs.Prelude.{◌≡◌, ◌≢◌, ℕ, ◌<◌, ◌≤◌, ◌^◌, length, slice_index, slice_range};
+ghost use Rattle.std.specs.Prelude.{true, false, MatchOption, SomeIff, IfSome};
+ghost use Rattle.protobuf_parse_base.specs.Characters.{dot};
 ghost use Rattle.std.specs.Str.Parse as parse;
 ghost use Rattle.std.specs.Char as char;
 ghost use Rattle.protobuf_parse_lexer.specs.Text.{is_in, AllIn, RunStopsAt, IsHex, IsOctal};
 ghost use Rattle.protobuf_parse_lexer.specs.Text.{IsDecimal, IsExponent, IsFloat, IsIntegerText};
-ghost use Rattle.protobuf_parse_lexer.specs.Text.{IsLongest, Longest, NoFront};
+ghost use Rattle.protobuf_parse_lexer.specs.Text.{IsLongest, IsToken, Longest, NoFront};
 ghost use Rattle.protobuf_parse_lexer.specs.Scan.{EndsFraction, BeginsNumber, Stands};
 
 use crate::error::ParserError;
@@ -168,6 +169,34 @@ fn float_piece(text: &[u8], end: usize) -> Piece
     } else {
         Piece::Token(end, TokenKind::Float)
     }
+}
+
+/// Whether a number before the byte goes on with it, or is refused for it.
+#[inline(always)]
+fn goes_on(byte: u8) -> bool
+    ensures ident { result ≡ false → is_in ByteClass.Ident byte ≡ false }
+    ensures point { result ≡ false → byte ≢ dot }
+{
+    is_in(ByteClass::Ident, byte) || byte == b'.'
+}
+
+/// How long the number at the front is, and what it spells, if it is a decimal integer of one or
+/// two digits, as the numbers of most fields are.
+#[inline(always)]
+pub fn short_number(text: &[u8]) -> Option<(usize, u64)>
+    requires some { 0 < length text.now }
+    requires digit { is_in ByteClass.Digit (slice_index text.now 0) ≡ true }
+    ensures { IfSome result (λ t. IsToken text.now t.0 (TokenKind.Integer t.1)) }
+{
+    let first = text[0];
+    let second = byte_at(text, 1);
+    if !goes_on(second) {
+        return Some((1, u64::from(first - b'0')));
+    }
+    if first != b'0' && is_in(ByteClass::Digit, second) && !goes_on(byte_at(text, 2)) {
+        return Some((2, u64::from(first - b'0') * 10 + u64::from(second - b'0')));
+    }
+    None
 }
 
 /// The number at the front.

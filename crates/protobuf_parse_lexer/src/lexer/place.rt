@@ -1,18 +1,21 @@
 //! Lines and columns.
 
-ghost use Rattle.std.specs.Prelude.{◌≡◌, ◌<◌, ◌≤◌, ◌+◌, ◌^◌, length};
+ghost use Rattle.std.specs.Prelude.{◌≡◌, ℕ, ◌<◌, ◌≤◌, ◌+◌, ◌^◌, length, slice_index, take};
+ghost use Rattle.protobuf_parse_base.specs.Characters as char;
 ghost use Rattle.protobuf_parse_lexer.specs.Place.{after, step};
 ghost use Rattle.protobuf_parse_lexer.specs.Scan.{IsPlain};
+ghost use Rattle.protobuf_parse_lexer.specs.Text.{AllIn, RunStopsAt};
 ghost use Rattle.protobuf_parse_lexer.specs.Cut as cut;
 
 use crate::error::{ParserError, ParserErrorWithLocation};
+use crate::lexer::bytes::{ByteClass, is_in};
 use crate::lexer::lanes::{LANES, plain_run_end};
 use crate::lexer::token::{Place, TokenKind};
 
 /// The place after one byte more. The bytes 128 to 191 go on with a character that begins before
 /// them.
 #[inline]
-fn step(place: Place, byte: u8) -> Place
+pub fn step(place: Place, byte: u8) -> Place
     requires line { place.line + 1 < 2 ^ 32 }
     requires col { place.col + 1 < 2 ^ 32 }
     ensures value { result ≡ step place byte }
@@ -92,6 +95,48 @@ pub fn place_after(place: Place, bytes: &[u8]) -> Place
         place_after_each(place, bytes)
     } else {
         place_after_runs(place, bytes)
+    }
+}
+
+/// The end of the spaces from `at` on.
+#[inline(always)]
+fn spaces_end(bytes: &[u8], at: usize) -> usize
+    requires { at ≤ length bytes.now }
+    ensures after { at ≤ result }
+    ensures within { result ≤ length bytes.now }
+    ensures passes { (k : ℕ) → at ≤ k → k < result → slice_index bytes.now k ≡ char.space }
+{
+    let mut end = at;
+    while end < bytes.len() && bytes[end] == b' ' {
+        end += 1;
+    }
+    end
+}
+
+/// How many blanks stand at the front of these bytes, which begin at `place`; and the place behind
+/// them.
+#[inline(always)]
+pub fn blanks(place: Place, bytes: &[u8]) -> (usize, Place)
+    requires line { place.line + length bytes.now < 2 ^ 32 }
+    requires col { place.col + length bytes.now < 2 ^ 32 }
+    ensures within { result.0 ≤ length bytes.now }
+    ensures each { AllIn ByteClass.Blank bytes.now 0 result.0 }
+    ensures stops { RunStopsAt ByteClass.Blank bytes.now result.0 }
+    ensures value { result.1 ≡ after place (take result.0 bytes.now) }
+    ensures line { result.1.line ≤ place.line + result.0 }
+    ensures col { result.1.col ≤ place.col + result.0 }
+{
+    let mut now = place;
+    let mut at = 0;
+    'runs: loop {
+        let end = spaces_end(bytes, at);
+        now.col += (end - at) as u32;
+        at = end;
+        if at >= bytes.len() || !is_in(ByteClass::Blank, bytes[at]) {
+            return (at, now);
+        }
+        now = step(now, bytes[at]);
+        at += 1;
     }
 }
 

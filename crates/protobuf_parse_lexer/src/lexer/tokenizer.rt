@@ -1,19 +1,19 @@
 //! Tokens that are cut one by one.
 
 ghost use Rattle.std.specs.Prelude.{◌≡◌, ◌≤◌, ◌<◌, ◌+◌, ◌-◌, ◌^◌, ◌⊎◌, ℕ, length, true, false};
-ghost use Rattle.std.specs.Prelude.{IfOk, IfErr, MatchOption, slice_index};
-ghost use Rattle.protobuf_parse_base.specs.Characters as char;
-ghost use Rattle.protobuf_parse_lexer.specs.Text.{IsBlank};
+ghost use Rattle.std.specs.Prelude.{IfOk, IfErr, MatchOption};
+ghost use Rattle.protobuf_parse_lexer.specs.Text.{IsToken};
 ghost use Rattle.protobuf_parse_lexer.specs.Ahead.{deepens, counted};
 ghost use Rattle.protobuf_parse_lexer.specs.AheadOf.{ahead};
 ghost use Rattle.protobuf_parse_lexer.specs.Classes as class;
 ghost use Rattle.protobuf_parse_lexer.specs.Tokens as tokens;
 
 use crate::error::{ParserError, ParserErrorWithLocation};
-use crate::lexer::bytes::{ByteClass, is_in};
+use crate::lexer::bytes::{ByteClass, byte_at, is_in};
 use crate::lexer::depth::MAX_DEPTH;
-use crate::lexer::front::{Piece, front_piece};
-use crate::lexer::place::{located, place_after, place_past};
+use crate::lexer::front::{Piece, front_piece, ident_end, is_plain_symbol};
+use crate::lexer::number::short_number;
+use crate::lexer::place::{blanks, located, place_after, place_past};
 use crate::lexer::token::{Place, TokenKind};
 use crate::lexer::{MAX_TEXT_LEN, past_mark};
 
@@ -145,14 +145,39 @@ impl<'text> Tokenizer<'text> {
         }
     }
 
-    /// Cuts the token that comes first in the rest of the text.
+    /// Cuts the token that comes first in the rest of the text. Most are short ones behind a blank:
+    /// they are cut without a call.
     #[inline(never)]
     fn cut_next(&mut self)
         ensures { lies_ahead self.new
             ≡ ahead self.old.brackets.opened self.old.brackets.closed self.old.after
             self.old.rest.now }
     {
-        let (mut place, mut rest) = past_space(self.after, self.rest);
+        let (place, front) = past_blanks(self.after, self.rest);
+        let bytes = front.as_bytes();
+        let first = byte_at(bytes, 0);
+        if is_in(ByteClass::Ident, first) {
+            if !is_in(ByteClass::Digit, first) {
+                return self.take(place, front, ident_end(bytes), TokenKind::Ident);
+            }
+            if let Some((len, number)) = short_number(bytes) {
+                return self.take(place, front, len, TokenKind::Integer(number));
+            }
+        } else if is_plain_symbol(first) {
+            return self.take(place, front, 1, TokenKind::Symbol(char::from(first)));
+        }
+        self.cut_any()
+    }
+
+    /// The same, whatever comes first.
+    #[inline(never)]
+    fn cut_any(&mut self)
+        ensures { lies_ahead self.new
+            ≡ ahead self.old.brackets.opened self.old.brackets.closed self.old.after
+            self.old.rest.now }
+    {
+        let mut place = self.after;
+        let mut rest = self.rest;
         'pieces: loop {
             match front_piece(rest.as_bytes()) {
                 Piece::End => return self.end(place, rest),
@@ -161,20 +186,30 @@ impl<'text> Tokenizer<'text> {
                     place = place_after(place, blank.as_bytes());
                     rest = after;
                 }
-                Piece::Token(len, kind) => {
-                    let Some(brackets) = brackets_past(self.brackets, kind) else {
-                        return self.end(NOWHERE, rest);
-                    };
-                    let (text, after) = rest.split_at(len);
-                    self.next = Some(NextToken { kind, text, place });
-                    self.after = place_past(place, kind, text.as_bytes());
-                    self.rest = after;
-                    self.brackets = brackets;
-                    return;
-                }
+                Piece::Token(len, kind) => return self.take(place, rest, len, kind),
                 Piece::Fault(_) => return self.end(NOWHERE, rest),
             }
         }
+    }
+
+    /// Takes the token at the front of what is left of the text from `place` on.
+    #[inline(always)]
+    fn take(&mut self, place: Place, front: &'text str, len: usize, kind: TokenKind)
+        requires token { IsToken front.now len kind }
+        requires lines { place.line + length front.now ≤ 2147483648 }
+        requires cols { place.col + length front.now ≤ 2147483648 }
+        requires less { length front.now ≤ length self.old.rest.now }
+        ensures { lies_ahead self.new
+            ≡ ahead self.old.brackets.opened self.old.brackets.closed place front.now }
+    {
+        let Some(brackets) = brackets_past(self.brackets, kind) else {
+            return self.end(NOWHERE, front);
+        };
+        let (text, after) = front.split_at(len);
+        self.next = Some(NextToken { kind, text, place });
+        self.after = place_past(place, kind, text.as_bytes());
+        self.rest = after;
+        self.brackets = brackets;
     }
 
     /// No token is left.
@@ -220,36 +255,18 @@ fn brackets_past(before: Brackets, kind: TokenKind) -> Option<Brackets>
     }
 }
 
-/// The place and the text behind a space that stands alone at the front of a text, as mostly
-/// between tokens; and those that are given where none does.
+/// The place and the text behind the blanks at the front of a text, perhaps none.
 #[inline(always)]
-fn past_space(place: Place, text: &str) -> (Place, &str)
-    requires { place.col < 2 ^ 32 - 1 }
+fn past_blanks(place: Place, text: &str) -> (Place, &str)
+    requires line { place.line + length text.now < 2 ^ 32 }
+    requires col { place.col + length text.now < 2 ^ 32 }
     ensures line { result.0.line + length result.1.now ≤ place.line + length text.now }
     ensures col { result.0.col + length result.1.now ≤ place.col + length text.now }
     ensures len { length result.1.now ≤ length text.now }
     ensures same { (o c : ℕ)
         → ahead o c result.0 result.1.now ≡ ahead o c place text.now }
 {
-    if !is_one_space(text.as_bytes()) {
-        return (place, text);
-    }
-    let (_, rest) = text.split_at(1);
-    let behind = Place {
-        line: place.line,
-        col: place.col + 1,
-    };
+    let (len, behind) = blanks(place, text.as_bytes());
+    let (_, rest) = text.split_at(len);
     (behind, rest)
-}
-
-/// Whether a space stands at the front, and no other blank behind it, as mostly between tokens.
-#[inline(always)]
-fn is_one_space(text: &[u8]) -> bool
-    ensures blank { result ≡ true → IsBlank text.now 1 }
-    ensures space { result ≡ true → slice_index text.now 0 ≡ char.space }
-{
-    match text {
-        [b' ', second, ..] => !is_in(ByteClass::Blank, *second),
-        _ => false,
-    }
 }

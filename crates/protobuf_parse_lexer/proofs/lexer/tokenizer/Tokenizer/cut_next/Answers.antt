@@ -1,112 +1,24 @@
-use Rattle.std.proofs.Common.{◌≡◌, sym, ◌∙◌, subst, ap, length, arith}
-use Rattle.std.proofs.lemmas.Str.{IsUtf8-drop}
-use Rattle.std.proofs.Common.{IsUtf8}
-use Rattle.protobuf_parse_lexer.specs.Text.{IsBlank, IsToken, IsFault}
-use Rattle.protobuf_parse_lexer.specs.Place.{after}
-use Rattle.protobuf_parse_lexer.specs.Tokens.{is_opening, is_closing}
-use Rattle.protobuf_parse_lexer.specs.Scan.{IsPlain}
-use Rattle.protobuf_parse_lexer.specs.declared.lexer.front.Piece.TheVariants as piece
-use Rattle.protobuf_parse_lexer.proofs.Ahead.{ahead_is, blank_step, token_step, deep_step}
-use Rattle.protobuf_parse_lexer.proofs.Ahead.{counted_le}
-use Rattle.protobuf_parse_lexer.proofs.Cuts.{blank_cut, token_cut, token_some}
-use Rattle.protobuf_parse_lexer.proofs.Plain.{token_plain}
+use Rattle.std.proofs.Common.{◌≡◌, true, false, slice_index, ap, sym, subst, ◌∙◌}
+use Rattle.protobuf_parse_lexer.specs.Front.{long_ident}
+use Rattle.protobuf_parse_lexer.specs.Text.{IsToken, is_in}
+use Rattle.protobuf_parse_lexer.specs.declared.lexer.bytes.ByteClass.TheVariants as class
+use Rattle.protobuf_parse_lexer.specs.declared.lexer.token.TokenKind.TheVariants as kind
 use Rattle.protobuf_parse_lexer.proofs.lexer.tokenizer.Tokenizer.cut_next.Goals as goal
 
-pub returns-in-End : goal.returns-in-End
-returns-in-End c =
-    let empty : length c.pieces.rest.now
-    ≡ 0 = omega (arith, ap length c.as_bytes.ensures.value, c.in-End.ensures) in
-    c.end.ensures
-    ∙ sym (ahead_is c.pieces.self.brackets.opened c.pieces.self.brackets.closed c.pieces.place
-    c.pieces.rest.now piece.End empty)
-    ∙ c.pieces.invariant.4
+pub take-requires-clause-token : goal.take-requires-clause-token
+take-requires-clause-token c =
+    let z = c.as_bytes-bytes.result.now in
+    let n = c.ident_end.result in
+    let first = c.byte_at-first.ensures.value in
+    let word : is_in class.Ident (slice_index z 0) ≡ true =
+    ap (is_in class.Ident) (sym first) ∙ sym c.if-is_in.ensures in
+    let no_digit : is_in class.Digit (slice_index z 0) ≡ false =
+    ap (is_in class.Digit) (sym first) ∙ sym c.if-not-is_in.ensures in
+    let is = c.ident_end.ensures in
+    subst (λ y. IsToken y n kind.Ident) c.as_bytes-bytes.ensures.value
+    (is.0, long_ident z n word no_digit is)
 
-pub split_at-requires : goal.split_at-requires
-split_at-requires c =
-    let is = subst (λ z. IsBlank z c.in-Blank.len) c.as_bytes.ensures.value c.in-Blank.ensures in
-    blank_cut c.pieces.rest.now c.in-Blank.len c.pieces.invariant.0 is
-
-pub pieces-preserved : goal.pieces-preserved
-pieces-preserved c =
-    let z = c.pieces.rest.now in
-    let n = c.in-Blank.len in
-    let is = subst (λ x. IsBlank x n) c.as_bytes.ensures.value c.in-Blank.ensures in
-    let utf8 = IsUtf8-drop z n c.pieces.invariant.0
-    (blank_cut z n c.pieces.invariant.0 is) in
-    let same = c.as_bytes-in-Blank.ensures.value in (
-      subst IsUtf8 (sym c.split_at.ensures.back) utf8,
-      omega (arith, ap length same),
-      omega (arith, ap length same),
-      omega (arith, ap length same),
-      blank_step c.pieces.self.brackets.opened c.pieces.self.brackets.closed c.pieces.place
-          c.place_after-place.result z c.split_at.result.0.now c.split_at.result.1.now n is c.split_at.ensures.front
-          c.split_at.ensures.back
-          (c.place_after-place.ensures.value ∙ ap (after c.pieces.place) same)
-          ∙ c.pieces.invariant.4,
-    )
-
-pub split_at-requires-in-Token : goal.split_at-requires-in-Token
-split_at-requires-in-Token c =
-    let is = subst (λ z. IsToken z c.in-Token.len c.in-Token.kind) c.as_bytes.ensures.value
-    c.in-Token.ensures in
-    token_cut c.pieces.rest.now c.in-Token.len c.in-Token.kind c.pieces.invariant.0 is
-
-pub place_past-self-requires-clause-plain : goal.place_past-self-requires-clause-plain
-place_past-self-requires-clause-plain c =
-    let z = c.pieces.rest.now in
-    let n = c.in-Token.len in
-    let is = subst (λ x. IsToken x n c.in-Token.kind) c.as_bytes.ensures.value c.in-Token.ensures in
-    let front = c.as_bytes-in-Token.ensures.value ∙ c.split_at-in-Token.ensures.front in
-    subst (IsPlain c.in-Token.kind) (sym front) (token_plain z n c.in-Token.kind is)
-
-pub returns-in_default : goal.returns-in_default
-returns-in_default c =
-    let z = c.pieces.rest.now in
-    let n = c.in-Token.len in
-    let is = subst (λ x. IsToken x n c.in-Token.kind) c.as_bytes.ensures.value c.in-Token.ensures in
-    c.end-in_default.ensures
-    ∙ deep_step c.pieces.self.brackets.opened c.pieces.self.brackets.closed c.pieces.place z n
-    c.in-Token.kind is c.in_default.ensures
-    ∙ c.pieces.invariant.4
-
-pub invariant_of-self : goal.invariant_of-self
-invariant_of-self c =
-    let z = c.pieces.rest.now in
-    let n = c.in-Token.len in
-    let k = c.in-Token.kind in
-    let is = subst (λ x. IsToken x n k) c.as_bytes.ensures.value c.in-Token.ensures in
-    let some = token_some z n k is in
-    let same = ap length c.as_bytes-in-Token.ensures.value in
-    let o = counted_le (is_opening k) c.pieces.self.brackets.opened in
-    let d = counted_le (is_closing k) c.pieces.self.brackets.closed in
-    record {
-      lines = omega (arith, same);
-      cols = omega (arith, same);
-      opens = omega (arith, o, c.in-Some.ensures.1, some.0);
-      closes = omega (arith, d, c.in-Some.ensures.2, some.0);
-    }
-
-pub returns-in-Token : goal.returns-in-Token
-returns-in-Token c =
-    let z = c.pieces.rest.now in
-    let n = c.in-Token.len in
-    let k = c.in-Token.kind in
-    let is = subst (λ x. IsToken x n k) c.as_bytes.ensures.value c.in-Token.ensures in
-    token_step c.pieces.self.brackets.opened c.pieces.self.brackets.closed
-    c.in-Some.brackets.opened c.in-Some.brackets.closed c.pieces.place c.place_past-self.result z
-    c.split_at-in-Token.result.0.now c.split_at-in-Token.result.1.now n k is
-    c.split_at-in-Token.ensures.front c.split_at-in-Token.ensures.back
-    (c.place_past-self.ensures.value
-    ∙ ap (after c.pieces.place) c.as_bytes-in-Token.ensures.value)
-    c.in-Some.ensures.0 c.in-Some.ensures.1 c.in-Some.ensures.2
-    ∙ c.pieces.invariant.4
-
-pub returns-in-Fault : goal.returns-in-Fault
-returns-in-Fault c =
-    let z = c.pieces.rest.now in
-    let e = c.in-Fault.field-0 in
-    let is = subst (λ x. IsFault x e) c.as_bytes.ensures.value c.in-Fault.ensures in
-    c.end-in-Fault.ensures
-    ∙ sym (ahead_is c.pieces.self.brackets.opened c.pieces.self.brackets.closed c.pieces.place z
-    (piece.Fault e) is)
-    ∙ c.pieces.invariant.4
+pub take-requires-in-Some-clause-token : goal.take-requires-in-Some-clause-token
+take-requires-in-Some-clause-token c =
+    subst (λ y. IsToken y c.in-Some.len (kind.Integer c.in-Some.number))
+    c.as_bytes-bytes.ensures.value c.in-Some.ensures

@@ -2,7 +2,7 @@ use Rattle.std.proofs.Common.{◌≡◌, ◌≤◌, ◌+◌, length}
 use denote.Text.{Utf8}
 use denote.Shadow.{shadow}
 use Rattle.protobuf_parse_lexer.specs.AheadOf.{ahead}
-use Rattle.protobuf_parse_lexer.proofs.lexer.tokenizer.Tokenizer.cut_next.Given as goal
+use Rattle.protobuf_parse_lexer.proofs.lexer.tokenizer.Tokenizer.cut_any.Given as goal
 
 -- the same lies ahead of the rest
 abbrev pub invariant-pieces : goal.invariant-pieces

@@ -1,0 +1,31 @@
+use Rattle.std.proofs.Common.{sym, ◌∙◌, subst, ap}
+use Rattle.protobuf_parse_lexer.specs.Place.{after}
+use Rattle.protobuf_parse_lexer.specs.Scan.{IsPlain}
+use Rattle.protobuf_parse_lexer.proofs.Ahead.{token_step, deep_step}
+use Rattle.protobuf_parse_lexer.proofs.Cuts.{token_cut}
+use Rattle.protobuf_parse_lexer.proofs.Plain.{token_plain}
+use Rattle.protobuf_parse_lexer.proofs.lexer.tokenizer.Tokenizer.take.Goals as goal
+
+pub returns-in_default : goal.returns-in_default
+returns-in_default c =
+    c.end.ensures
+    ∙ deep_step c.args.self.now.brackets.opened c.args.self.now.brackets.closed c.args.place
+    c.args.front.now c.args.len c.args.kind c.requires.token c.in_default.ensures
+
+pub split_at-requires : goal.split_at-requires
+split_at-requires c =
+    token_cut c.args.front.now c.args.len c.args.kind c.utf8.front c.requires.token
+
+pub place_past-self-requires-clause-plain : goal.place_past-self-requires-clause-plain
+place_past-self-requires-clause-plain c =
+    subst (IsPlain c.args.kind) (sym (c.as_bytes.ensures.value ∙ c.split_at.ensures.front))
+    (token_plain c.args.front.now c.args.len c.args.kind c.requires.token)
+
+pub returns : goal.returns
+returns c =
+    token_step c.args.self.now.brackets.opened c.args.self.now.brackets.closed
+    c.in-Some.brackets.opened c.in-Some.brackets.closed c.args.place c.place_past-self.result
+    c.args.front.now c.split_at.result.0.now c.split_at.result.1.now c.args.len c.args.kind
+    c.requires.token c.split_at.ensures.front c.split_at.ensures.back
+    (c.place_past-self.ensures.value ∙ ap (after c.args.place) c.as_bytes.ensures.value)
+    c.in-Some.ensures.0 c.in-Some.ensures.1 c.in-Some.ensures.2
