@@ -33,7 +33,7 @@ use Rattle.protobuf_parse_lexer.proofs.Unique.{one, not_true, and_true}
 
 -- ---- each piece leaves less of the text
 
-blank_some : (z : Bytes) (n : ℕ) → IsBlank z n → (0 < n) × (n ≤ length z)
+pub blank_some : (z : Bytes) (n : ℕ) → IsBlank z n → (0 < n) × (n ≤ length z)
 blank_some z n (inl s) = (s.some, s.within)
 blank_some z n (inr (inl s)) = (omega (arith, s.some), s.within)
 blank_some z n (inr (inr s)) = (omega (arith, s.some), s.within)

@@ -1,6 +1,7 @@
 -- What the short ways past blanks and tokens find at the front of a text.
 use Rattle.std.proofs.Common.{◌≡◌, ◌≢◌, ℕ, zero, suc, ◌+◌, ◌-◌, ◌*◌, ◌<◌, ◌≤◌, ◌^◌, true, false, [], ◌∷◌}
 use Rattle.std.proofs.Common.{length, take, drop, slice_index, refl, sym, ap, ◌∙◌, subst, arith}
+use Rattle.std.proofs.Common.{eqb, nat_le, nat_lt, ◌||◌, get_or-take, length-take}
 use Rattle.std.proofs.Common.{inl, inr, ◌⊎◌, IsUtf8}
 use Rattle.std.specs.Char as char
 use Rattle.std.specs.Prelude.{slice_range}
@@ -9,16 +10,23 @@ use Rattle.std.specs.Str.Parse.{digits_value}
 use Rattle.std.proofs.lemmas.Bool.{false≢true, cases_lt}
 use Rattle.std.proofs.lemmas.Bool.Decides.{nat_tests}
 use Rattle.std.proofs.lemmas.Str.{IsCharBoundary-from_drop}
-use Rattle.protobuf_parse_lexer.specs.AheadOf.{ahead}
-use Rattle.protobuf_parse_lexer.specs.Front.{after_whole, long_number}
-use Rattle.protobuf_parse_lexer.specs.Place.{after}
+use Rattle.protobuf_parse_lexer.specs.AheadOf.{ahead, from_piece}
+use Rattle.protobuf_parse_lexer.specs.Front.{after_whole, long_number, number_first}
+use Rattle.protobuf_parse_lexer.specs.Front.{number_from_integer}
+use Rattle.protobuf_parse_lexer.specs.Place.{after, step}
+use Rattle.protobuf_parse_lexer.specs.Scan.{BeginsNumber, IsPlaceBefore, Stands}
+use Rattle.protobuf_parse_lexer.specs.Scan.{begins_line_comment}
 use Rattle.protobuf_parse_lexer.specs.Text.{Bytes, is_in, AllIn, RunStopsAt, IsBlank, IsDecimal}
 use Rattle.protobuf_parse_lexer.specs.Text.{IsFloat, IsLetterE, IsLongest, IsNumberText}
-use Rattle.protobuf_parse_lexer.specs.Text.{IsToken}
+use Rattle.protobuf_parse_lexer.specs.Text.{IsToken, IsLine, IsQuote, is_symbol}
+use Rattle.protobuf_parse_lexer.specs.Total.{total, true_or_false}
 use Rattle.protobuf_parse_lexer.specs.declared.lexer.bytes.ByteClass.TheVariants as class
+use Rattle.protobuf_parse_lexer.specs.declared.lexer.front.Piece.{Piece}
+use Rattle.protobuf_parse_lexer.specs.declared.lexer.front.Piece.TheVariants as piece
 use Rattle.protobuf_parse_lexer.specs.declared.lexer.token.Place.{Place}
+use Rattle.protobuf_parse_lexer.specs.declared.lexer.token.TokenKind.{TokenKind}
 use Rattle.protobuf_parse_lexer.specs.declared.lexer.token.TokenKind.TheVariants as kind
-use Rattle.protobuf_parse_lexer.proofs.Ahead.{blank_step}
+use Rattle.protobuf_parse_lexer.proofs.Ahead.{ahead_is, blank_some, blank_step}
 use Rattle.protobuf_parse_lexer.proofs.Cuts.{blank_cut}
 
 -- ---- blanks
@@ -64,6 +72,106 @@ blanks_step o c p at z rest zero within each stops f g =
 blanks_step o c p at z rest (suc n) within each stops f g =
     blank_step o c p at z (take (suc n) z) rest (suc n)
     (are_blank z (suc n) (omega arith) within each stops) refl f g
+
+-- ---- comments before a line feed
+
+slash_no_blank : (b : ℕ) → b ≡ 47 → is_in class.Blank b ≡ true → ⊥
+slash_no_blank b e h = false≢true (subst (λ x. is_in class.Blank x ≡ true) e h)
+
+line_byte : (b : ℕ) → is_in class.Line b ≡ true → eqb b 10 ≡ false
+line_byte b h = grind (arith, nat_tests)
+
+slash_in_line : (b : ℕ) → b ≡ 47 → is_in class.Line b ≡ true
+slash_in_line b e = rw e refl
+
+line_each : (z : Bytes) (n : ℕ) → IsLine z n → AllIn class.Line z 0 n
+line_each z n l zero from less = slash_in_line (slice_index z 0) l.first
+line_each z n l (suc zero) from less = slash_in_line (slice_index z 1) l.second
+line_each z n l (suc (suc k)) from less = l.each (suc (suc k)) (omega arith) less
+
+slashes : (z : Bytes) → begins_line_comment z ≡ true
+    → (slice_index z 0 ≡ 47) × (slice_index z 1 ≡ 47)
+slashes z h = grind (arith, nat_tests)
+
+-- only the comment to the end of a line begins so, and has no line feed
+pub line_comment : (z : Bytes) (n : ℕ) → IsBlank z n → begins_line_comment (take n z) ≡ true
+    → AllIn class.Line (take n z) 0 (length (take n z))
+line_comment z n (inl s) begins =
+    let first = sym (get_or-take n z 0 0 s.some) ∙ (slashes (take n z) begins).0 in
+    absurd (slash_no_blank (slice_index z 0) first (s.each 0 (omega arith) s.some))
+line_comment z n (inr (inl l)) begins = λ k from less.
+    let within : k < n = omega (arith, length-take n z) in
+    ap (is_in class.Line) (get_or-take n z k 0 within) ∙ line_each z n l k from within
+line_comment z n (inr (inr b)) begins =
+    let second = sym (get_or-take n z 1 0 (omega (arith, b.some)))
+    ∙ (slashes (take n z) begins).1 in
+    absurd (omega (arith, sym b.second ∙ second))
+
+same_step : (p : Place) (b : ℕ) → eqb b 10 ≡ false → (step p b).line ≡ p.line
+same_step p b other =
+    elim (true_or_false (nat_lt b 0x80 || nat_le 0xc0 b)) [
+      | inl h ↦ rw (other, h) refl
+      | inr h ↦ rw (other, h) refl
+    ]
+
+-- no line feed in these bytes
+pub same_line : (p : Place) (z : Bytes) → AllIn class.Line z 0 (length z) → (after p z).line ≡ p.line
+same_line p [] each = refl
+same_line p (b ∷ z) each =
+    let other : eqb b 10 ≡ false = line_byte b (each 0 (omega arith) (omega arith)) in
+    same_line (step p b) z (λ k from less. each (suc k) (omega arith) (omega arith))
+    ∙ same_step p b other
+
+quote_no_feed : (b : ℕ) → IsQuote b → b ≡ 10 → ⊥
+quote_no_feed b (inl q) e = omega (arith, q, e)
+quote_no_feed b (inr q) e = omega (arith, q, e)
+
+number_no_feed : (z : Bytes) → BeginsNumber z → slice_index z 0 ≡ 10 → ⊥
+number_no_feed z (inl d) e = false≢true (subst (λ b. is_in class.Digit b ≡ true) e d)
+number_no_feed z (inr p) e = omega (arith, p.0, e)
+
+token_no_feed : (z : Bytes) (n : ℕ) (k : TokenKind) → IsToken z n k → slice_index z 0 ≡ 10 → ⊥
+token_no_feed z n kind.Ident t e =
+    false≢true (subst (λ b. is_in class.Ident b ≡ true) e (t.0.each 0 (omega arith) t.0.some))
+token_no_feed z n kind.Str t e = quote_no_feed (slice_index z 0) t.0.quote e
+token_no_feed z n (kind.Integer v) t e =
+    number_no_feed z (number_first z n (number_from_integer z n v t.0)) e
+token_no_feed z n kind.Float t e =
+    number_no_feed z (number_first z n (inr (inr (inr t.0)))) e
+token_no_feed z n (kind.Symbol b) t e =
+    false≢true (subst (λ x. is_symbol x ≡ true) (t.2 ∙ e) t.3)
+
+-- where a line feed comes first the column says nothing
+feed_place : (p q : Place) (n : ℕ) (z : Bytes) → 0 < n → p.line ≡ q.line
+    → after p (take n (10 ∷ z)) ≡ after q (take n (10 ∷ z))
+feed_place p q zero z some e = absurd (omega arith)
+feed_place p q (suc n) z some e =
+    ap (λ l. after (record { line = l + 1; col = 1 }) (take n z)) e
+
+feed_step : (o c : ℕ) (p q : Place) (z : Bytes) → slice_index z 0 ≡ 10 → p.line ≡ q.line
+    → ahead o c p z ≡ ahead o c q z
+feed_step o c p q [] feed e = absurd (omega (arith, feed))
+feed_step o c p q (b ∷ z) feed e =
+    let r = total (b ∷ z) in
+    ahead_is o c p (b ∷ z) r.0 r.1 ∙ go r.0 r.1 ∙ sym (ahead_is o c q (b ∷ z) r.0 r.1)
+  where
+    go : (r : Piece) → Stands (b ∷ z) r
+        → from_piece ahead o c p (b ∷ z) r ≡ from_piece ahead o c q (b ∷ z) r
+    go piece.End is = absurd (omega (arith, is))
+    go (piece.Blank n) is =
+        ap (λ a. ahead o c a (drop n (b ∷ z)))
+        (subst (λ x. after p (take n (x ∷ z)) ≡ after q (take n (x ∷ z))) (sym feed)
+        (feed_place p q n z (blank_some (b ∷ z) n is).0 e))
+    go (piece.Token n k) is = absurd (token_no_feed (b ∷ z) n k is feed)
+    go (piece.Fault x) is = refl
+
+pub behind_step : (o c : ℕ) (p at : Place) (z front rest : Bytes) (n : ℕ) → IsBlank z n
+    → front ≡ take n z → rest ≡ drop n z → IsPlaceBefore rest (after p front) at
+    → ahead o c at rest ≡ ahead o c p z
+behind_step o c p at z front rest n is e f (inl g) = blank_step o c p at z front rest n is e f g
+behind_step o c p at z front rest n is e f (inr g) =
+    feed_step o c at (after p front) rest g.0 g.1
+    ∙ blank_step o c p (after p front) z front rest n is e f refl
 
 -- ---- decimal integers behind which nothing goes on with them
 

@@ -8,6 +8,7 @@ use Rattle.protobuf_parse_base.specs.Characters as char
 use Rattle.protobuf_parse_lexer.specs.Text.{Bytes, is_in, AllIn, RunStopsAt, IsBlank, IsToken}
 use Rattle.protobuf_parse_lexer.specs.Text.{IsFault}
 use Rattle.protobuf_parse_lexer.specs.declared.lexer.bytes.ByteClass.TheVariants as class
+use Rattle.protobuf_parse_lexer.specs.declared.lexer.token.Place.{Place}
 use Rattle.protobuf_parse_lexer.specs.declared.lexer.token.TokenKind.{TokenKind}
 use Rattle.protobuf_parse_lexer.specs.declared.lexer.token.TokenKind.TheVariants as kind
 use Rattle.protobuf_parse_lexer.specs.declared.lexer.front.Piece.{Piece}
@@ -53,6 +54,21 @@ first_set mask n = if mask == 0 then n else trailing_zeros w64 mask
 abbrev pub is_plain_symbol : ℕ → Bool
 is_plain_symbol b =
     (nat_le char.colon b && nat_le b char.tilde) || (nat_le char.open_paren b && nat_le b char.minus)
+
+-- a point that begins no number
+abbrev pub is_plain_point : Bytes → Bool
+is_plain_point z = slice_index z 0 == char.dot && not (is_in class.Digit (slice_index z 1))
+
+abbrev pub is_no_backslash : ℕ → Bool
+is_no_backslash b = not (b == char.backslash)
+
+-- a comment up to the end of its line begins there
+abbrev pub begins_line_comment : Bytes → Bool
+begins_line_comment z = slice_index z 0 == char.slash && slice_index z 1 == char.slash
+
+-- The place at which what is left begins; or any in its line, if a line feed comes first.
+abbrev pub IsPlaceBefore : Bytes → Place → Place → Type 0
+IsPlaceBefore rest p q = (q ≡ p) ⊎ ((slice_index rest 0 ≡ char.newline) × (q.line ≡ p.line))
 
 -- no line feed, and no byte of a longer character
 abbrev pub is_plain : ℕ → Bool

@@ -142,3 +142,11 @@ pub fn is_plain_symbol(first: u8) -> bool
 {
     (b':' <= first && first <= b'~') || (b'(' <= first && first <= b'-')
 }
+
+/// Whether a point stands at the front that begins no number.
+#[inline(always)]
+pub fn is_plain_point(text: &[u8]) -> bool
+    ensures { result ≡ scan.is_plain_point text.now }
+{
+    byte_at(text, 0) == b'.' && !is_in(ByteClass::Digit, byte_at(text, 1))
+}

@@ -2,6 +2,8 @@
 
 ghost use Rattle.std.specs.Prelude.{◌≡◌, ◌<◌, ◌≤◌, ℕ, ◌++◌, true, length, map, MatchOption, OnOk};
 ghost use Rattle.std.specs.Prelude.{IfOk, IfErr, string_bytes};
+ghost use Rattle.std.specs.List.{list_all};
+ghost use Rattle.protobuf_parse_lexer.specs.Scan.{is_no_backslash};
 ghost use Rattle.protobuf_parse_lexer.specs.Text.{is_in};
 ghost use Rattle.protobuf_parse_lexer.specs.Tokens as tokens;
 ghost use Rattle.protobuf_parse_lexer.specs.Tokens.{IsDigits, DecodesAll};
@@ -207,10 +209,21 @@ fn push_meaning(bytes: &mut Vec<u8>, meaning: Meaning) -> Result<(), AllocError>
     Ok(())
 }
 
+/// Whether no escape begins in the piece, as in most.
+fn has_no_backslash(piece: &[u8]) -> bool
+    ensures { result ≡ list_all is_no_backslash piece.now }
+{
+    piece.iter().all(|byte| *byte != b'\\')
+}
+
 /// Puts what a piece stands for behind the bytes.
 fn push_piece(bytes: &mut Vec<u8>, piece: &[u8]) -> Result<(), StrLitDecodeError>
     ensures { PushesPiece piece.now bytes.old.items bytes.new.items result }
 {
+    if has_no_backslash(piece) {
+        bytes.extend_from_slice(piece)?;
+        return Ok(());
+    }
     let mut rest = piece;
     while !rest.is_empty() {
         let Some(part) = front_part(rest) else {
@@ -230,7 +243,12 @@ impl StrLit {
             (λ v. DecodesAll (map string_bytes self.now.pieces.items) v.items) }
         ensures refused { IfErr result (RefusesBytes (map string_bytes self.now.pieces.items)) }
     {
-        let mut bytes = Vec::new(alloc);
+        // No piece stands for more bytes than it has, and most strings have one.
+        let room = match self.pieces.first() {
+            Some(piece) => piece.len(),
+            None => 0,
+        };
+        let mut bytes = Vec::with_capacity(alloc, room)?;
         for piece in &self.pieces {
             push_piece(&mut bytes, piece.as_bytes())?;
         }

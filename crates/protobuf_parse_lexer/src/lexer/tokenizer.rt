@@ -11,9 +11,9 @@ ghost use Rattle.protobuf_parse_lexer.specs.Tokens as tokens;
 use crate::error::{ParserError, ParserErrorWithLocation};
 use crate::lexer::bytes::{ByteClass, byte_at, is_in};
 use crate::lexer::depth::MAX_DEPTH;
-use crate::lexer::front::{Piece, front_piece, ident_end, is_plain_symbol};
+use crate::lexer::front::{Piece, front_piece, ident_end, is_plain_point, is_plain_symbol};
 use crate::lexer::number::short_number;
-use crate::lexer::place::{blanks, located, place_after, place_past};
+use crate::lexer::place::{blanks, located, place_behind, place_past};
 use crate::lexer::token::{Place, TokenKind};
 use crate::lexer::{MAX_TEXT_LEN, past_mark};
 
@@ -145,8 +145,8 @@ impl<'text> Tokenizer<'text> {
         }
     }
 
-    /// Cuts the token that comes first in the rest of the text. Most are short ones behind a blank:
-    /// they are cut without a call.
+    /// Cuts the token that comes first in the rest of the text. Most are an identifier, a symbol or
+    /// a short number behind blanks: they are cut without a call, by two thirds of the instructions.
     #[inline(never)]
     fn cut_next(&mut self)
         ensures { lies_ahead self.new
@@ -163,7 +163,7 @@ impl<'text> Tokenizer<'text> {
             if let Some((len, number)) = short_number(bytes) {
                 return self.take(place, front, len, TokenKind::Integer(number));
             }
-        } else if is_plain_symbol(first) {
+        } else if is_plain_symbol(first) || is_plain_point(bytes) {
             return self.take(place, front, 1, TokenKind::Symbol(char::from(first)));
         }
         self.cut_any()
@@ -179,15 +179,16 @@ impl<'text> Tokenizer<'text> {
         let mut place = self.after;
         let mut rest = self.rest;
         'pieces: loop {
-            match front_piece(rest.as_bytes()) {
-                Piece::End => return self.end(place, rest),
+            let (start, front) = past_blanks(place, rest);
+            match front_piece(front.as_bytes()) {
+                Piece::End => return self.end(start, front),
                 Piece::Blank(len) => {
-                    let (blank, after) = rest.split_at(len);
-                    place = place_after(place, blank.as_bytes());
+                    let (blank, after) = front.split_at(len);
+                    place = place_behind(start, blank.as_bytes(), after.as_bytes());
                     rest = after;
                 }
-                Piece::Token(len, kind) => return self.take(place, rest, len, kind),
-                Piece::Fault(_) => return self.end(NOWHERE, rest),
+                Piece::Token(len, kind) => return self.take(start, front, len, kind),
+                Piece::Fault(_) => return self.end(NOWHERE, front),
             }
         }
     }

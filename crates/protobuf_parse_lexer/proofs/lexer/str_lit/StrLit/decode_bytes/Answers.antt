@@ -5,7 +5,7 @@ use Rattle.protobuf_parse_lexer.proofs.Escapes.{next_piece, wrong_piece}
 use Rattle.protobuf_parse_lexer.proofs.lexer.str_lit.StrLit.decode_bytes.Goals as goal
 
 pub loop-piece-init : goal.loop-piece-init
-loop-piece-init c = subst (DecodesAll []) (sym c.new-bytes.ensures.items) none
+loop-piece-init c = subst (DecodesAll []) (sym c.in_ok-bytes.ensures.items) none
 
 pub loop-piece-preserved : goal.loop-piece-preserved
 loop-piece-preserved c =
@@ -17,7 +17,8 @@ loop-piece-preserved c =
 
 pub returns-in_err-push_piece-clause-refused : goal.returns-in_err-push_piece-clause-refused
 returns-in_err-push_piece-clause-refused c =
-    let p = err_from_is_err_and c.from_residual.result c.from_residual.ensures.1 in
+    let p = err_from_is_err_and c.from_residual-in_err-push_piece.result
+    c.from_residual-in_err-push_piece.ensures.1 in
     let h = c.in_err-push_piece.ensures in
     let items = c.deref-piece-items.result.now in
     rw (p.1, p.2)
