@@ -1,6 +1,6 @@
 -- What readers of fields read.
 use Rattle.std.proofs.Common.{◌≡◌, ◌≤◌, ◌-◌, ℕ, suc, List, [], ◌∷◌, ◌++◌, Option, Some, None, Bool}
-use Rattle.std.proofs.Common.{true, false, not, ◌||◌, cond, bytes_eq, refl, ◌∙◌, codes, arith}
+use Rattle.std.proofs.Common.{true, false, not, is_some, ◌||◌, cond, bytes_eq, refl, ◌∙◌, codes, arith}
 use Rattle.protobuf_parse_base.specs.Relations.{somes}
 use Rattle.protobuf_parse_base.specs.Readers.{Rest, end, token, read, stuck, bind}
 use Rattle.protobuf_parse_base.specs.Relations.{seen}
@@ -145,6 +145,23 @@ field_unlabelled s n j ts us place d e p b h = go s d b h
         → (field_in s j).run ts ≡ (after_label_in s n j place None).low.run us
     go Proto2 d b h = absurd cc
     go Proto3 d b h = rw (e, p, h.1) (unlabelled j ts b h.0)
+
+-- no label is found
+pub none_found : (s : Syntax) (o : Option Label) (ts us : Rest Lexeme Place) → is_some o ≡ false
+    → Finds (labels_in s) o ts us → Finds (labels_in s) None ts us
+none_found s None ts us e h = h
+none_found s (Some l) ts us e h = absurd cc
+
+-- What stands behind a label, or behind none in proto3.
+pub field_behind : (s : Syntax) (n j : ℕ) (ts us : Rest Lexeme Place) (place : Place)
+    (o : Option Label) → (is_some o ≡ false → s ≡ Proto2 → ⊥) → n ≡ suc j
+    → place ≡ mark_of place_of ts → starts lexicon (nest.field_firsts s) ts ≡ true
+    → Finds (labels_in s) o ts us
+    → (field_in s j).run ts ≡ (after_label_in s n j place o).low.run us
+field_behind s n j ts us place (Some l) old e p b h = field_labelled s n j ts us place l e p h
+field_behind Proto2 n j ts us place None old e p b h = absurd (old refl refl)
+field_behind Proto3 n j ts us place None old e p b h =
+    field_unlabelled Proto3 n j ts us place refl e p b h
 
 -- ---- no field
 

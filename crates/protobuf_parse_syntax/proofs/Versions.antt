@@ -1,19 +1,22 @@
 -- What is read of statements and bodies whose readers are given for each version of the language
 -- apart: in a form that is the same for both.
-use Rattle.std.proofs.Common.{◌≡◌, ℕ, [], ◌∷◌, Bool, true, false, cond, codes, refl, ◌∙◌}
+use Rattle.std.proofs.Common.{◌≡◌, ℕ, List, [], ◌∷◌, Bool, true, false, ◌||◌, cond, codes, drop}
+use Rattle.std.proofs.Common.{refl, sym, ◌∙◌, Option, Some, Result, Ok, Err}
 use Rattle.protobuf_parse_base.specs.Relations.{somes}
 use Rattle.protobuf_parse_base.specs.Readers.{Rest, end, token, Read, read, bind, starts}
+use Rattle.protobuf_parse_base.specs.Readers.{starts-append}
 use Rattle.protobuf_parse_base.specs.Combinators.{run_many}
 use Rattle.protobuf_parse_base.specs.Conditions.{mark_of}
 use Rattle.protobuf_parse_lexer.specs.Text.{Bytes}
 use Rattle.protobuf_parse_lexer.specs.Tokens.{Lexeme}
-use Rattle.protobuf_parse_lexer.specs.Classes.{word}
+use Rattle.protobuf_parse_lexer.specs.Classes.{word, words}
 use Rattle.protobuf_parse_lexer.specs.declared.lexer.token.Place.{Place}
 use Rattle.protobuf_parse_syntax.specs.Trees as tree
 use Rattle.protobuf_parse_syntax.specs.ClassLaws.{lexicon}
 use Rattle.protobuf_parse_syntax.specs.Productions as parse
 use Rattle.protobuf_parse_syntax.specs.Nested as nest
-use Rattle.protobuf_parse_syntax.specs.Code.{Fails, fails_first}
+use Rattle.protobuf_parse_syntax.specs.Grammar.{statement_words}
+use Rattle.protobuf_parse_syntax.specs.Code.{Fails, fails_first, Puts, PutsSome}
 use Rattle.protobuf_parse_syntax.specs.declared.parser.refusal.Refusal.{Refusal}
 use Rattle.protobuf_parse_syntax.specs.declared.tree.Syntax.{Syntax}
 use Rattle.protobuf_parse_syntax.specs.declared.tree.Syntax.TheVariants.{Proto2, Proto3}
@@ -48,6 +51,18 @@ pub made_reads : {A B : Type 0} (f : A → B) (a : A) (b : B) (after : Rest Lexe
     (r : Read Lexeme Place A) (total : Read Lexeme Place B) → total ≡ made f r → r ≡ read a after
     → b ≡ f a → total ≡ read b after
 made_reads f a b after r total h e v = h ∙ rw (e, v) refl
+
+-- a statement that was put behind a list, or what fails, where none of them is a semicolon
+pub puts_some : {X Y : Type 0} (view : X → Y) (result : Result (Unit {0}) Refusal) (old new : List X)
+    (after : Rest Lexeme Place) (r : Read Lexeme Place Y) (total : Read Lexeme Place (Option Y))
+    → total ≡ made Some r → Puts view result old new after r
+    → PutsSome view result old new after total
+puts_some view (Ok u) old new after r total h (x, e, f) = (Some x, e, h ∙ rw f refl)
+puts_some view (Err e) old new after r total h g = made_fails Some e after r total h g
+
+both_no : (a b : Bool) → (a || b) ≡ false → (a ≡ false) × (b ≡ false)
+both_no true b h = absurd cc
+both_no false b h = (refl, h)
 
 -- ---- services
 
@@ -158,6 +173,36 @@ module _ (s : Syntax) (n : ℕ) (ts : Rest Lexeme Place) where
                   ≡ made tree.message_field ((nest.field s n).run ts)
               message_field h = message_statement_runs s n ts
                   ∙ rw (a, b, c, d, e, no_extensions s ts f, h) refl
+
+-- no word of a list begins what comes next
+module _ (w : Bytes) (ws : List Bytes) (ts : Rest Lexeme Place)
+    (h : starts lexicon (words (w ∷ ws)) ts ≡ false) where
+  neither : (says w ts || starts lexicon (words ws) ts) ≡ false
+  neither = sym (starts-append lexicon (word w ∷ []) (words ws) ts) ∙ h
+
+  first_no : says w ts ≡ false
+  first_no = (both_no (says w ts) (starts lexicon (words ws) ts) neither).0
+
+  rest_no : starts lexicon (words ws) ts ≡ false
+  rest_no = (both_no (says w ts) (starts lexicon (words ws) ts) neither).1
+
+-- a field, where no statement of another kind begins
+pub message_plain : (s : Syntax) (n : ℕ) (ts : Rest Lexeme Place)
+    → starts lexicon (words statement_words) ts ≡ false
+    → (nest.message_statement s n).low.run ts ≡ made tree.message_field ((nest.field s n).run ts)
+message_plain s n ts h =
+    let behind = λ (k : ℕ). drop k statement_words in
+    let a = rest_no (codes "reserved") (behind 1) ts h in
+    let b = rest_no (codes "oneof") (behind 2) ts a in
+    let c = rest_no (codes "extend") (behind 3) ts b in
+    let d = rest_no (codes "message") (behind 4) ts c in
+    let e = rest_no (codes "enum") (behind 5) ts d in
+    let f = rest_no (codes "extensions") (behind 6) ts e in
+    message_field s n ts (first_no (codes "reserved") (behind 1) ts h)
+    (first_no (codes "oneof") (behind 2) ts a) (first_no (codes "extend") (behind 3) ts b)
+    (first_no (codes "message") (behind 4) ts c) (first_no (codes "enum") (behind 5) ts d)
+    (λ v. first_no (codes "extensions") (behind 6) ts e)
+    (first_no (codes "option") (behind 7) ts f)
 
 pub message_item_runs : (s : Syntax) (n : ℕ) (ts : Rest Lexeme Place)
     → (nest.message_item s n).low.run ts ≡ (nest.item (nest.message_statement s n)).low.run ts

@@ -1,6 +1,7 @@
 -- No public clause rests on this file.
 -- What the parser's functions say of readers.
-use Rattle.std.specs.Prelude.{◌≡◌, ◌⊎◌, ℕ, Bool, true, false, Option, None, List, [], ◌∷◌}
+use Rattle.std.specs.Prelude.{◌≡◌, ◌⊎◌, ℕ, Bool, true, false, Option, None, List, [], ◌∷◌, ◌++◌}
+use Rattle.std.specs.Option.{option_to_list}
 use Rattle.std.specs.Prelude.{Result, Ok, Err}
 use Rattle.std.proofs.Common.{ap, ◌∙◌, refl}
 use Rattle.protobuf_parse_base.specs.Characters as char
@@ -9,7 +10,7 @@ use Rattle.protobuf_parse_base.specs.Readers.{deep, bind}
 use Rattle.protobuf_parse_base.specs.Relations.{Many}
 use Rattle.protobuf_parse_base.specs.Whole.{whole}
 use Rattle.protobuf_parse_base.specs.declared.proto_path.error.PathError.{PathError}
-use Rattle.protobuf_parse_lexer.specs.Text.{Bytes}
+use Rattle.protobuf_parse_lexer.specs.Text.{Bytes, seen_by}
 use Rattle.protobuf_parse_lexer.specs.AheadViews.{lies_ahead}
 use Rattle.protobuf_parse_lexer.specs.Tokens.{Lexeme}
 use Rattle.protobuf_parse_lexer.specs.Classes.{Class, symbol, ident, is_one_of, float}
@@ -147,6 +148,21 @@ abbrev pub Gives : {X Y : Type 0} → (X → Y) → Result X Refusal → Rest Le
     → Read Lexeme Place Y → Type 0
 Gives view (Ok x) after r = r ≡ read (view x) after
 Gives view (Err e) after r = Fails e after r
+
+-- What a function put behind a list, seen by view, is what was read, and the cursor stands behind it
+-- or at the fault, unless memory ran out.
+abbrev pub Puts : {X Y : Type 0} → (X → Y) → Result (Unit {0}) Refusal → List X → List X
+    → Rest Lexeme Place → Read Lexeme Place Y → Type 0
+Puts {X = X} view (Ok u) old new after r =
+    (x : X) × (new ≡ old ++ x ∷ []) × (r ≡ read (view x) after)
+Puts view (Err e) old new after r = Fails e after r
+
+-- the same where perhaps nothing was to be put
+abbrev pub PutsSome : {X Y : Type 0} → (X → Y) → Result (Unit {0}) Refusal → List X → List X
+    → Rest Lexeme Place → Read Lexeme Place (Option Y) → Type 0
+PutsSome {X = X} view (Ok u) old new after r =
+    (x : Option X) × (new ≡ old ++ option_to_list x) × (r ≡ read (seen_by view x) after)
+PutsSome view (Err e) old new after r = Fails e after r
 
 -- Or it is refused in another way too.
 abbrev pub GivesOr : {X Y : Type 0} → (Refusal → Rest Lexeme Place → Read Lexeme Place Y → Type 0)

@@ -1,7 +1,6 @@
 -- No public clause rests on this file.
 -- What functions say of the next token's word.
-use Rattle.std.specs.Prelude.{◌≡◌, Bool, true, false, Option, Some, None, List, map}
-use Rattle.std.specs.Borrow.{Bor}
+use Rattle.std.specs.Prelude.{◌≡◌, Bool, true, false, Option, Some, None, List}
 use Rattle.protobuf_parse_base.specs.Readers.{Rest, end, token, read, starts}
 use Rattle.protobuf_parse_base.specs.Relations.{seen}
 use Rattle.protobuf_parse_lexer.specs.Text.{Bytes}
@@ -16,10 +15,6 @@ use Rattle.protobuf_parse_syntax.specs.Productions.{one_of}
 -- one of the classes sees an identifier with this text
 abbrev pub takes : List Class → Bytes → Bool
 takes cs w = seen (λ c v. sees_at c kind.Ident v) cs w
-
--- a table of the code, as the grammar has it
-abbrev pub table_seen : {A : Type 0} → List (Bor Bytes × A) → List (Bytes × A)
-table_seen table = map (λ e. (e.0.now, e.1)) table
 
 -- what a function says that reads a word of a table, if one comes next
 abbrev pub Finds : {A : Type 0} → List (Bytes × A) → Option A → Rest Lexeme Place

@@ -11,8 +11,8 @@ mod message;
 mod name;
 mod option;
 mod refusal;
+mod same;
 mod service;
-mod tables;
 mod words;
 
 ghost use Rattle.std.specs.Prelude.{◌≡◌, ◌≤◌, ◌⊎◌, IfOk, IfErr};

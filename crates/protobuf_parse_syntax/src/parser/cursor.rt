@@ -17,7 +17,7 @@ ghost use Rattle.protobuf_parse_syntax.specs.Code.{next_ident, floats_second};
 ghost use Rattle.protobuf_parse_syntax.specs.Words.{behind_next};
 
 use crate::parser::refusal::Refusal;
-use crate::parser::tables::is_same;
+use crate::parser::same::is_same;
 use protobuf_parse_base::Name;
 use protobuf_parse_lexer::{ParserError, Place, TokenKind, Tokenizer, unquoted};
 use std::alloc::Global;
@@ -166,14 +166,6 @@ impl<'text> Cursor<'text> {
             }
             _ => Err(Refusal::Next(ParserError::IncorrectInput)),
         }
-    }
-
-    /// Reads an identifier, which may be any word. S8 at any other token.
-    pub fn ident(&mut self, alloc: Global) -> Result<String, Refusal>
-        ensures { Gives string_bytes result (left self.new) (read.ident.run (left self.old)) }
-    {
-        let text = self.ident_text()?;
-        Ok(String::from_str(alloc, text)?)
     }
 
     /// Reads the name of what is declared, an identifier, which may be any word. S8 at any other

@@ -1,4 +1,8 @@
 //! Fields, groups and types.
+//!
+//! What reads a plain field stands in its callers (`#[inline(always)]`), so that a result of 112
+//! bytes is not handed up from call to call; what is rare is kept out of them, so that its room is
+//! not cleared for each field: docs/PERFORMANCE.md.
 
 ghost use Rattle.std.specs.Prelude.{◌≡◌, suc, false, map};
 ghost use Rattle.protobuf_parse_base.specs.Readers.{starts};
@@ -27,6 +31,7 @@ use protobuf_parse_lexer::{ParserError, Place};
 use std::alloc::Global;
 
 /// A field of a message, a group or an `extend`, of at most so many levels.
+#[inline(always)]
 #[cycle(field)]
 #[tactic(auto, using(crate::specs::Fields::field_zero, crate::specs::Fields::field_more))]
 pub fn field(
@@ -47,6 +52,7 @@ pub fn field(
 /// A label word that begins a field is its label. In proto2 every field has a label, unless it
 /// begins with `map`; in proto3 none has the label `required`. The fields of a group have one level
 /// less.
+#[inline(always)]
 #[cycle(field)]
 fn field_of(
     alloc: Global,
@@ -63,13 +69,11 @@ fn field_of(
         return Err(Refusal::Next(field_fault(tokens, syntax)));
     }
     let place = tokens.place();
-    match label(tokens, syntax) {
-        Some(label) => after_label(alloc, tokens, syntax, levels, inner, place, Some(label)),
-        None => match syntax {
-            Syntax::Proto2 => map_field(alloc, tokens, levels, inner, place),
-            Syntax::Proto3 => after_label(alloc, tokens, syntax, levels, inner, place, None),
-        },
+    let label = label(tokens, syntax);
+    if label.is_none() && matches!(syntax, Syntax::Proto2) {
+        return map_field(alloc, tokens, levels, inner, place);
     }
+    after_label(alloc, tokens, syntax, levels, inner, place, label)
 }
 
 /// The label that begins a field, if one does.
@@ -108,8 +112,9 @@ pub fn oneof_field(
 
 /// `group ident "=" int "{" { ";" | field } "}"` with fields of the inner levels, or
 /// `type ident "=" int [ options ] ";"`
+#[inline(always)]
 #[cycle(field)]
-#[tactic(auto, unfolding(crate::specs::Nested::after_label), using(crate::specs::Code::fails_first, crate::proofs::FieldViews::views_plain, crate::proofs::FieldViews::views_group))]
+#[tactic(auto, unfolding(crate::specs::Nested::after_label), using(crate::specs::Code::fails_first, crate::proofs::FieldViews::views_group))]
 fn after_label(
     alloc: Global,
     tokens: &mut Cursor<'_>,
@@ -126,11 +131,11 @@ fn after_label(
         let group = group(alloc, tokens, syntax, inner, place, label)?;
         Ok(FieldStatement::Group(group))
     } else {
-        let field = plain_field(alloc, tokens, levels, place, label)?;
-        Ok(FieldStatement::Field(field))
+        plain_field(alloc, tokens, levels, place, label)
     }
 }
 
+/// `group ident "=" int "{" { ";" | field } "}"`
 #[inline(never)]
 #[cycle(field)]
 #[tactic(auto, unfolding(crate::specs::Nested::group_of), using(crate::specs::Code::fails_first))]
@@ -234,6 +239,7 @@ fn field_item(
 }
 
 /// `type ident "=" int [ options ] ";"`, where the word `group` does not come next.
+#[inline(always)]
 #[tactic(auto, unfolding(crate::specs::Nested::plain_field), using(crate::specs::Code::fails_first))]
 fn plain_field(
     alloc: Global,
@@ -241,9 +247,9 @@ fn plain_field(
     levels: usize,
     place: Place,
     label: Option<Label>,
-) -> Result<Field, Refusal>
+) -> Result<FieldStatement, Refusal>
     requires { starts lexicon group_firsts (left tokens.old) ≡ false }
-    ensures { Gives (λ f. view.field (view.field_syntax f)) result (left tokens.new)
+    ensures { Gives view.field_statement_syntax result (left tokens.new)
         ((nest.plain_field levels place label).low.run (left tokens.old)) }
 {
     let type_ = field_type(alloc, tokens, levels)?;
@@ -252,7 +258,7 @@ fn plain_field(
 
 /// `map ident "=" int [ options ] ";"` with types of the inner levels.
 #[inline(never)]
-#[tactic(auto, using(crate::specs::Code::fails_first, crate::proofs::FieldViews::views_plain))]
+#[tactic(auto, using(crate::specs::Code::fails_first))]
 fn map_field(
     alloc: Global,
     tokens: &mut Cursor<'_>,
@@ -264,13 +270,12 @@ fn map_field(
         (reads_map_field levels inner place (left tokens.old)) }
 {
     let type_ = map(alloc, tokens, inner)?;
-    let field = after_type(alloc, tokens, levels, place, None, type_)?;
-    Ok(FieldStatement::Field(field))
+    after_type(alloc, tokens, levels, place, None, type_)
 }
 
 /// What follows the type of a field: `ident "=" int [ options ] ";"`
 #[inline(always)]
-#[tactic(auto, unfolding(crate::specs::Nested::after_type_parts), using(crate::specs::Code::fails_first))]
+#[tactic(auto, unfolding(crate::specs::Nested::after_type_parts), using(crate::specs::Code::fails_first, crate::proofs::FieldViews::views_plain))]
 fn after_type(
     alloc: Global,
     tokens: &mut Cursor<'_>,
@@ -278,8 +283,8 @@ fn after_type(
     place: Place,
     label: Option<Label>,
     type_: Type,
-) -> Result<Field, Refusal>
-    ensures { Gives (λ f. view.field (view.field_syntax f)) result (left tokens.new)
+) -> Result<FieldStatement, Refusal>
+    ensures { Gives view.field_statement_syntax result (left tokens.new)
         ((nest.after_type levels place label (view.type_syntax type_)).low.run (left tokens.old)) }
 {
     let name = tokens.ident_name(alloc)?;
@@ -287,17 +292,18 @@ fn after_type(
     let number = tokens.field_number()?;
     let options = options(alloc, tokens, levels)?;
     tokens.symbol(';')?;
-    Ok(Field {
+    Ok(FieldStatement::Field(Field {
         place,
         label,
         type_,
         name,
         number,
         options,
-    })
+    }))
 }
 
 /// A type of at most so many levels.
+#[inline(always)]
 #[cycle(types)]
 #[tactic(auto, using(crate::specs::Fields::type_zero, crate::specs::Fields::type_more))]
 fn field_type(alloc: Global, tokens: &mut Cursor<'_>, levels: usize) -> Result<Type, Refusal>
@@ -311,6 +317,7 @@ fn field_type(alloc: Global, tokens: &mut Cursor<'_>, levels: usize) -> Result<T
 }
 
 /// `type = scalar | "map" "<" type "," type ">" | name`
+#[inline(always)]
 #[cycle(types)]
 #[tactic(auto, unfolding(crate::specs::Nested::type_of))]
 fn type_of(alloc: Global, tokens: &mut Cursor<'_>, levels: usize) -> Result<Type, Refusal>
@@ -345,6 +352,7 @@ fn scalar(tokens: &mut Cursor<'_>) -> Option<Scalar>
 }
 
 /// `"map" "<" type "," type ">"`
+#[inline(never)]
 #[cycle(types)]
 #[tactic(auto, unfolding(crate::specs::Nested::map_of), using(crate::specs::Code::fails_first))]
 fn map(alloc: Global, tokens: &mut Cursor<'_>, levels: usize) -> Result<Type, Refusal>

@@ -3,7 +3,7 @@
 ghost use Rattle.std.specs.Prelude.{map};
 ghost use Rattle.protobuf_parse_lexer.specs.Text.{seen_by};
 ghost use Rattle.protobuf_parse_syntax.specs.Trees as view;
-ghost use Rattle.protobuf_parse_syntax.specs.Code.{left, Gives};
+ghost use Rattle.protobuf_parse_syntax.specs.Code.{left, Gives, Puts, PutsSome};
 ghost use Rattle.protobuf_parse_syntax.specs.Nested as nest;
 
 use crate::parser::cursor::Cursor;
@@ -14,7 +14,7 @@ use crate::parser::name::name;
 use crate::parser::option::option;
 use crate::parser::refusal::Refusal;
 use crate::parser::words::{
-    begins_message_statement, begins_oneof_statement, field_fault, oneof_fault,
+    begins_message_statement, begins_oneof_statement, field_fault, oneof_fault, sees_statement_word,
 };
 use crate::tree::{Extend, Message, MessageStatement, OneOf, OneOfStatement, Syntax};
 use protobuf_parse_lexer::ParserError;
@@ -55,10 +55,9 @@ fn message_of(
     tokens.word("message")?;
     let name = tokens.ident_name(alloc)?;
     tokens.symbol('{')?;
-    let mut body = message_statements(alloc, tokens, syntax, levels)?;
+    let body = message_statements(alloc, tokens, syntax, levels)?;
     let fault = field_fault(tokens, syntax);
     tokens.symbol_or('}', fault)?;
-    body.shrink_to_fit();
     Ok(Message { place, name, body })
 }
 
@@ -75,13 +74,12 @@ fn message_statements(
 {
     let mut body = Vec::new(alloc);
     'items: while begins_message_statement(tokens, syntax) {
-        let item = message_item(alloc, tokens, syntax, levels)?;
-        push_some(&mut body, item)?;
+        message_item(alloc, tokens, syntax, levels, &mut body)?;
     }
     Ok(body)
 }
 
-/// A statement of a message, or nothing at a semicolon.
+/// Puts a statement of a message behind those of its body, or nothing at a semicolon.
 #[cycle(message)]
 #[tactic(auto, using(crate::specs::Code::fails_first, crate::proofs::Versions::message_item_runs))]
 fn message_item(
@@ -89,21 +87,61 @@ fn message_item(
     tokens: &mut Cursor<'_>,
     syntax: Syntax,
     levels: usize,
-) -> Result<Option<MessageStatement>, Refusal>
-    ensures { Gives (seen_by view.message_statement_syntax) result (left tokens.new)
-        ((nest.message_item syntax levels).low.run (left tokens.old)) }
+    body: &mut Vec<MessageStatement>,
+) -> Result<(), Refusal>
+    ensures { PutsSome view.message_statement_syntax result body.old.items body.new.items
+        (left tokens.new) ((nest.message_item syntax levels).low.run (left tokens.old)) }
 {
     if tokens.sees_symbol(';') {
         tokens.symbol(';')?;
-        return Ok(None);
+        return Ok(());
     }
-    Ok(Some(message_statement(alloc, tokens, syntax, levels)?))
+    message_statement(alloc, tokens, syntax, levels, body)
+}
+
+/// Puts a statement of a message behind those of its body. Most are fields, for which the room that
+/// other statements need is not cleared.
+#[cycle(message)]
+fn message_statement(
+    alloc: Global,
+    tokens: &mut Cursor<'_>,
+    syntax: Syntax,
+    levels: usize,
+    body: &mut Vec<MessageStatement>,
+) -> Result<(), Refusal>
+    ensures { Puts view.message_statement_syntax result body.old.items body.new.items
+        (left tokens.new) ((nest.message_statement syntax levels).low.run (left tokens.old)) }
+{
+    if sees_statement_word(tokens) {
+        return put_other_statement(alloc, tokens, syntax, levels, body);
+    }
+    let field = field(alloc, tokens, syntax, levels)?;
+    body.push(MessageStatement::Field(field))?;
+    Ok(())
+}
+
+/// The same of a statement that may be no field.
+#[inline(never)]
+#[cycle(message)]
+fn put_other_statement(
+    alloc: Global,
+    tokens: &mut Cursor<'_>,
+    syntax: Syntax,
+    levels: usize,
+    body: &mut Vec<MessageStatement>,
+) -> Result<(), Refusal>
+    ensures { Puts view.message_statement_syntax result body.old.items body.new.items
+        (left tokens.new) ((nest.message_statement syntax levels).low.run (left tokens.old)) }
+{
+    let statement = other_statement(alloc, tokens, syntax, levels)?;
+    body.push(statement)?;
+    Ok(())
 }
 
 /// `reserved | oneof | extend | message | enum | extensions | option | field`, where `extensions`
 /// stand in proto2 alone.
 #[cycle(message)]
-fn message_statement(
+fn other_statement(
     alloc: Global,
     tokens: &mut Cursor<'_>,
     syntax: Syntax,
@@ -151,10 +189,9 @@ fn oneof(
     tokens.word("oneof")?;
     let name = tokens.ident_name(alloc)?;
     tokens.symbol('{')?;
-    let mut body = oneof_statements(alloc, tokens, syntax, levels)?;
+    let body = oneof_statements(alloc, tokens, syntax, levels)?;
     let fault = oneof_fault(tokens);
     tokens.symbol_or('}', fault)?;
-    body.shrink_to_fit();
     Ok(OneOf { place, name, body })
 }
 

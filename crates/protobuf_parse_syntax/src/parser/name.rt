@@ -11,12 +11,29 @@ use crate::parser::refusal::Refusal;
 use protobuf_parse_lexer::{ParserError, StrLit, StrLitDecodeError};
 use std::alloc::Global;
 
+/// The room that is asked for a name with dots, which most need no more of.
+const DOTTED_LEN: usize = 32;
+
+/// An identifier, with room behind it if a dot follows.
+#[inline(always)]
+fn first_part(alloc: Global, tokens: &mut Cursor<'_>) -> Result<String, Refusal>
+    ensures { Gives string_bytes result (left tokens.new) (read.ident.run (left tokens.old)) }
+{
+    let first = tokens.ident_text()?;
+    if !tokens.sees_symbol('.') {
+        return Ok(String::from_str(alloc, first)?);
+    }
+    let mut part = String::with_capacity(alloc, DOTTED_LEN)?;
+    part.push_str(first)?;
+    Ok(part)
+}
+
 /// `ident { "." ident }`, without blanks.
 #[tactic(auto, unfolding(crate::specs::Productions::dotted), using(crate::specs::Code::fails_first))]
 pub fn dotted(alloc: Global, tokens: &mut Cursor<'_>) -> Result<String, Refusal>
     ensures { Gives string_bytes result (left tokens.new) (read.dotted.run (left tokens.old)) }
 {
-    let mut name = tokens.ident(alloc)?;
+    let mut name = first_part(alloc, tokens)?;
     'parts: while tokens.sees_symbol('.') {
         let part = dot_ident(tokens)?;
         name.push('.')?;

@@ -1,6 +1,9 @@
 //! The words of the language, and why no statement begins with a token.
+//!
+//! Words are told apart by tests in a row: of these the compiler makes a switch over lengths, where
+//! it would go through a table in a loop.
 
-ghost use Rattle.std.specs.Prelude.{◌≡◌, ◌∷◌};
+ghost use Rattle.std.specs.Prelude.{◌≡◌, ◌∷◌, take, drop};
 ghost use Rattle.protobuf_parse_base.specs.Characters as char;
 ghost use Rattle.protobuf_parse_base.specs.Readers.{starts};
 ghost use Rattle.protobuf_parse_lexer.specs.Classes as class;
@@ -12,58 +15,22 @@ ghost use Rattle.protobuf_parse_syntax.specs.Code.{left, AtOneToken};
 ghost use Rattle.protobuf_parse_syntax.specs.Nested as nest;
 
 use crate::parser::cursor::Cursor;
-use crate::parser::tables::{beside, is_among, is_same};
+use crate::parser::same::is_same;
 use crate::tree::{Label, Scalar, Syntax};
 use protobuf_parse_lexer::ParserError;
-
-const LABELS: &[(&str, Label)] = &[
-    ("optional", Label::Optional),
-    ("required", Label::Required),
-    ("repeated", Label::Repeated),
-];
-
-/// In proto3 `required` is no label.
-const LABELS_OF_PROTO3: &[(&str, Label)] = &[
-    ("optional", Label::Optional),
-    ("repeated", Label::Repeated),
-];
-
-const SCALARS: &[(&str, Scalar)] = &[
-    ("int32", Scalar::Int32),
-    ("int64", Scalar::Int64),
-    ("uint32", Scalar::Uint32),
-    ("uint64", Scalar::Uint64),
-    ("sint32", Scalar::Sint32),
-    ("sint64", Scalar::Sint64),
-    ("fixed32", Scalar::Fixed32),
-    ("sfixed32", Scalar::Sfixed32),
-    ("fixed64", Scalar::Fixed64),
-    ("sfixed64", Scalar::Sfixed64),
-    ("bool", Scalar::Bool),
-    ("string", Scalar::String),
-    ("bytes", Scalar::Bytes),
-    ("float", Scalar::Float),
-    ("double", Scalar::Double),
-];
-
-/// The words with which statements of other kinds begin, so that no field does.
-const STATEMENT_WORDS: &[&str] = &[
-    "reserved",
-    "oneof",
-    "extend",
-    "message",
-    "enum",
-    "extensions",
-    "option",
-];
 
 /// The label that a word is. In proto3 `required` is none.
 pub fn label_of(word: &str, syntax: Syntax) -> Option<Label>
     ensures { result ≡ grammar.lookup (labels_in syntax) word.now }
 {
-    match syntax {
-        Syntax::Proto2 => beside(LABELS, word),
-        Syntax::Proto3 => beside(LABELS_OF_PROTO3, word),
+    if is_same(word, "optional") {
+        Some(Label::Optional)
+    } else if is_same(word, "repeated") {
+        Some(Label::Repeated)
+    } else if is_same(word, "required") && matches!(syntax, Syntax::Proto2) {
+        Some(Label::Required)
+    } else {
+        None
     }
 }
 
@@ -71,14 +38,67 @@ pub fn label_of(word: &str, syntax: Syntax) -> Option<Label>
 pub fn is_label(word: &str) -> bool
     ensures { result ≡ class.is_among word.now (grammar.table_words grammar.labels) }
 {
-    is_among(word, &["optional", "required", "repeated"])
+    is_same(word, "optional") || is_same(word, "required") || is_same(word, "repeated")
+}
+
+/// The scalar type of integers that a word is.
+#[inline(always)]
+fn integer_of(word: &str) -> Option<Scalar>
+    ensures { result ≡ grammar.lookup (take 10 grammar.scalars) word.now }
+{
+    if is_same(word, "int32") {
+        Some(Scalar::Int32)
+    } else if is_same(word, "int64") {
+        Some(Scalar::Int64)
+    } else if is_same(word, "uint32") {
+        Some(Scalar::Uint32)
+    } else if is_same(word, "uint64") {
+        Some(Scalar::Uint64)
+    } else if is_same(word, "sint32") {
+        Some(Scalar::Sint32)
+    } else if is_same(word, "sint64") {
+        Some(Scalar::Sint64)
+    } else if is_same(word, "fixed32") {
+        Some(Scalar::Fixed32)
+    } else if is_same(word, "sfixed32") {
+        Some(Scalar::Sfixed32)
+    } else if is_same(word, "fixed64") {
+        Some(Scalar::Fixed64)
+    } else if is_same(word, "sfixed64") {
+        Some(Scalar::Sfixed64)
+    } else {
+        None
+    }
+}
+
+/// The scalar type of other values that a word is.
+#[inline(always)]
+fn other_scalar_of(word: &str) -> Option<Scalar>
+    ensures { result ≡ grammar.lookup (drop 10 grammar.scalars) word.now }
+{
+    if is_same(word, "bool") {
+        Some(Scalar::Bool)
+    } else if is_same(word, "string") {
+        Some(Scalar::String)
+    } else if is_same(word, "bytes") {
+        Some(Scalar::Bytes)
+    } else if is_same(word, "float") {
+        Some(Scalar::Float)
+    } else if is_same(word, "double") {
+        Some(Scalar::Double)
+    } else {
+        None
+    }
 }
 
 /// The scalar type that a word is.
 pub fn scalar_of(word: &str) -> Option<Scalar>
     ensures { result ≡ grammar.lookup grammar.scalars word.now }
 {
-    beside(SCALARS, word)
+    match integer_of(word) {
+        Some(scalar) => Some(scalar),
+        None => other_scalar_of(word),
+    }
 }
 
 /// Whether a statement of another kind begins with the word, so that no field does.
@@ -86,7 +106,33 @@ pub fn scalar_of(word: &str) -> Option<Scalar>
 pub fn is_statement_word(word: &str) -> bool
     ensures { result ≡ class.is_among word.now grammar.statement_words }
 {
-    is_among(word, STATEMENT_WORDS)
+    is_same(word, "reserved")
+        || is_same(word, "oneof")
+        || is_same(word, "extend")
+        || is_same(word, "message")
+        || is_same(word, "enum")
+        || is_same(word, "extensions")
+        || is_same(word, "option")
+}
+
+/// The same, as the class of such words sees it.
+#[inline(always)]
+fn takes_statement_word(word: &str) -> bool
+    ensures { result ≡ takes (class.words grammar.statement_words) word.now }
+{
+    is_statement_word(word)
+}
+
+/// Whether a word comes next with which a statement of another kind than a field begins.
+#[inline(always)]
+#[tactic(auto, using(crate::proofs::Words::word_starts, crate::proofs::Words::signs_start, crate::proofs::Words::nothing_starts))]
+pub fn sees_statement_word(tokens: &Cursor<'_>) -> bool
+    ensures { result ≡ starts lexicon (class.words grammar.statement_words) (left tokens.now) }
+{
+    match tokens.next_word() {
+        Some(word) => takes_statement_word(word),
+        None => false,
+    }
 }
 
 /// Whether a field of a message, a group or an `extend` begins with the word.

@@ -1,4 +1,5 @@
-use Rattle.std.proofs.Common.{◌≡◌, List, [], map, refl, sym, ap, ◌∙◌, subst}
+use Rattle.std.proofs.Common.{◌≡◌, List, [], map, not, is_some, false, refl, sym, ap, ◌∙◌, subst}
+use Rattle.std.proofs.lemmas.Bool.{false≢true}
 use Rattle.std.proofs.lemmas.Result.{err_from_is_err_and}
 use Rattle.protobuf_parse_base.specs.Relations.{somes}
 use Rattle.protobuf_parse_base.specs.Combinators.{shorter, run_many}
@@ -8,37 +9,51 @@ use Rattle.protobuf_parse_syntax.specs.Trees.{FieldStatementSyntax, field_statem
 use Rattle.protobuf_parse_syntax.specs.Nested as nest
 use Rattle.protobuf_parse_syntax.specs.Code.{left, Gives, fails_first}
 use Rattle.protobuf_parse_syntax.proofs.Loops.{pushed, fails}
-use Rattle.protobuf_parse_syntax.proofs.Fields.{field_absent, field_labelled, field_mapped}
-use Rattle.protobuf_parse_syntax.proofs.Fields.{field_unlabelled, field_items_law, field_block_law}
+use Rattle.protobuf_parse_syntax.proofs.Fields.{field_absent, field_mapped, none_found}
+use Rattle.protobuf_parse_syntax.proofs.Fields.{field_behind, field_items_law, field_block_law}
+use Rattle.protobuf_parse_syntax.specs.declared.tree.Syntax.TheVariants.{Proto2}
 use Rattle.protobuf_parse_syntax.proofs.parser.field.+field.Goals as goal
+use Rattle.protobuf_parse_syntax.proofs.parser.field.+field.Goals.{field_of-else-is_none-via-then-is_none+else-matches}
+use Rattle.protobuf_parse_syntax.proofs.parser.field.+field.Goals.{field_of-else-is_none-via-else-is_none}
+use Rattle.protobuf_parse_syntax.proofs.parser.field.+field.Goals.{field_of-in-Proto2, field_of-in_default}
 
 pub field_of-returns-then-not-begins_field : goal.field_of-returns-then-not-begins_field
 field_of-returns-then-not-begins_field t c =
     field_absent c.args.syntax c.args.inner (left c.args.tokens.now) c.field_fault.result
     (sym c.begins_field.ensures ∙ c.if-not-begins_field.true) c.field_fault.ensures
 
-pub field_of-returns-in-Some : goal.field_of-returns-in-Some
-field_of-returns-in-Some t c =
-    subst (λ r. Gives field_statement_syntax c.after_label.result (left c.after_label.new.tokens) r)
-    (sym (field_labelled c.args.syntax c.args.levels c.args.inner (left c.args.tokens.now)
-    (left c.label.new.tokens) c.place-place.result c.in-Some.label c.requires c.place-place.ensures
-    c.in-Some.ensures)) c.after_label.ensures
-
-pub field_of-returns-in-Proto2 : goal.field_of-returns-in-Proto2
-field_of-returns-in-Proto2 t c =
+pub field_of-returns-then-matches : goal.field_of-returns-then-matches
+field_of-returns-then-matches t c =
+    let old : c.args.syntax ≡ Proto2 = elim c.match-matches.branch [
+      | field_of-in-Proto2 w ↦ w.in-Proto2.is
+      | field_of-in_default w ↦ absurd
+          cc
+    ] in
+    let none : is_some c.label-label.result ≡ false =
+    c.is_none.ensures ∙ ap not c.if-is_none.true in
     subst (λ r. Gives field_statement_syntax c.map_field.result (left c.map_field.new.tokens) r)
     (sym (field_mapped c.args.syntax c.args.levels c.args.inner (left c.args.tokens.now)
-    (left c.label.new.tokens) c.place-place.result c.in-Proto2.is c.requires c.place-place.ensures
-    c.in-None.ensures)) c.map_field.ensures
+    (left c.label-label.new.tokens) c.place-place.result old c.requires c.place-place.ensures
+    (none_found c.args.syntax c.label-label.result (left c.args.tokens.now)
+    (left c.label-label.new.tokens) none c.label-label.ensures))) c.map_field.ensures
 
-pub field_of-returns-in-Proto3 : goal.field_of-returns-in-Proto3
-field_of-returns-in-Proto3 t c =
-    subst (λ r. Gives field_statement_syntax c.after_label-in-Proto3.result
-    (left c.after_label-in-Proto3.new.tokens) r) (sym
-    (field_unlabelled c.args.syntax c.args.levels c.args.inner (left c.args.tokens.now)
-    (left c.label.new.tokens) c.place-place.result c.in-Proto3.is c.requires c.place-place.ensures
-    (sym c.begins_field.ensures ∙ c.if-not-begins_field.false) c.in-None.ensures))
-    c.after_label-in-Proto3.ensures
+pub field_of-returns : goal.field_of-returns
+field_of-returns t c =
+    let none : is_some c.label-label.result ≡ not c.is_none.result = c.is_none.ensures in
+    let new : is_some c.label-label.result ≡ false → c.args.syntax ≡ Proto2 → ⊥ = λ e f.
+    elim c.else-is_none.branch [
+      | field_of-else-is_none-via-then-is_none+else-matches w ↦ elim w.match-matches.branch [
+        | field_of-in-Proto2 v ↦ absurd cc
+        | field_of-in_default v ↦ absurd (v.in_default.not-Proto2 f)
+      ]
+      | field_of-else-is_none-via-else-is_none w ↦ absurd
+          (false≢true (sym e ∙ none ∙ ap not w.if-is_none.false))
+    ] in
+    subst (λ r. Gives field_statement_syntax c.after_label.result (left c.after_label.new.tokens) r)
+    (sym (field_behind c.args.syntax c.args.levels c.args.inner (left c.args.tokens.now)
+    (left c.label-label.new.tokens) c.place-place.result c.label-label.result new c.requires
+    c.place-place.ensures (sym c.begins_field.ensures ∙ c.if-not-begins_field.false)
+    c.label-label.ensures)) c.after_label.ensures
 
 pub field_statements-items-init : goal.field_statements-items-init
 field_statements-items-init t c =
@@ -134,13 +149,6 @@ unfolding nest.after_label
 after_label-returns-in_err-group t c =
     let p = err_from_is_err_and c.from_residual.result c.from_residual.ensures.1 in
     rw (p.1, p.2, sym c.sees_word.ensures ∙ c.if-sees_word.true) c.in_err-group.ensures
-
-pub after_label-returns-in_err-field : goal.after_label-returns-in_err-field
-unfolding nest.after_label
-after_label-returns-in_err-field t c =
-    let p = err_from_is_err_and c.from_residual-in_err-field.result
-    c.from_residual-in_err-field.ensures.1 in
-    rw (p.1, p.2, sym c.sees_word.ensures ∙ c.if-sees_word.false) c.in_err-field.ensures
 
 pub group_body-returns-in_err-symbol : goal.group_body-returns-in_err-symbol
 group_body-returns-in_err-symbol t c =

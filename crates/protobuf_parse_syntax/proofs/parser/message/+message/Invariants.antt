@@ -9,19 +9,25 @@ use Rattle.protobuf_parse_syntax.specs.Code.{left}
 use Rattle.protobuf_parse_syntax.proofs.parser.message.+message.Given as goal
 
 abbrev pub decreases-message : goal.decreases-message
-decreases-message l = 5 * l.levels
+decreases-message l = 7 * l.levels
 
-abbrev pub decreases-message_of : goal.decreases-message_of
-decreases-message_of l = 5 * l.levels + 4
+abbrev pub decreases-other_statement : goal.decreases-other_statement
+decreases-other_statement l = 7 * l.levels + 1
 
-abbrev pub decreases-message_statements : goal.decreases-message_statements
-decreases-message_statements l = 5 * l.levels + 3
-
-abbrev pub decreases-message_item : goal.decreases-message_item
-decreases-message_item l = 5 * l.levels + 2
+abbrev pub decreases-put_other_statement : goal.decreases-put_other_statement
+decreases-put_other_statement l = 7 * l.levels + 2
 
 abbrev pub decreases-message_statement : goal.decreases-message_statement
-decreases-message_statement l = 5 * l.levels + 1
+decreases-message_statement l = 7 * l.levels + 3
+
+abbrev pub decreases-message_item : goal.decreases-message_item
+decreases-message_item l = 7 * l.levels + 4
+
+abbrev pub decreases-message_statements : goal.decreases-message_statements
+decreases-message_statements l = 7 * l.levels + 5
+
+abbrev pub decreases-message_of : goal.decreases-message_of
+decreases-message_of l = 7 * l.levels + 6
 
 abbrev pub invariant-message_statements-items : goal.invariant-message_statements-items
 invariant-message_statements-items l = (nest.message_items l.syntax l.levels).low.run
