@@ -26,7 +26,17 @@ pub fn camel_case(alloc: Global, name: &str) -> Result<String, AllocError>
     ensures idempotent { IfOk result
         (λ camel. camel_case_text (string_bytes camel) ≡ string_bytes camel) }
 {
-    join_words(alloc, name, true)
+    join_words(alloc, name, true, 0)
+}
+
+/// The name in camel case, as `camel_case` makes it, and more behind it. Room is asked for both at
+/// once. The one error is that memory is short.
+pub fn camel_case_and(alloc: Global, name: &str, more: &str) -> Result<String, AllocError>
+    ensures { IfOk result (λ both. string_bytes both ≡ camel_case_text name.now ++ more.now) }
+{
+    let mut both = join_words(alloc, name, true, more.len())?;
+    both.push_str(more)?;
+    Ok(both)
 }
 
 /// The name that a field has in JSON by default: without underscores, each character that directly
@@ -42,7 +52,7 @@ pub fn json_name(alloc: Global, name: &str) -> Result<Name, AllocError>
     }
     let mut short = ArrayVec::<u8, IN_PLACE>::new();
     if short.try_extend_from_slice(name.as_bytes()).is_err() {
-        return Ok(Name::from(join_words(alloc, name, false)?));
+        return Ok(Name::from(join_words(alloc, name, false, 0)?));
     }
     json_name_in_place(alloc, short.as_mut_slice(), front)
 }
@@ -62,21 +72,22 @@ fn json_name_in_place(alloc: Global, bytes: &mut [u8], front: usize) -> Result<N
 }
 
 /// The name without underscores, each character that directly followed one in ASCII upper case, and
-/// the first that remains too if `raise` is set.
-fn join_words(alloc: Global, name: &str, raise: bool) -> Result<String, AllocError>
+/// the first that remains too if `raise` is set, with room for so many bytes behind it.
+fn join_words(alloc: Global, name: &str, raise: bool, room: usize) -> Result<String, AllocError>
     ensures { IfOk result
         (λ joined. string_bytes joined ≡ encode_utf8_all (joined_words raise (chars name.now))) }
 {
-    let joined = join_bytes(alloc, name.as_bytes(), raise)?;
+    let joined = join_bytes(alloc, name.as_bytes(), raise, room)?;
     // Those of a text become a text, so they need not be gone through once more.
     Ok(unsafe { String::from_utf8_unchecked(joined) })
 }
 
 /// The same on the bytes of a name, since only those of ASCII are an underscore or change.
-fn join_bytes(alloc: Global, name: &[u8], raise: bool) -> Result<Vec<u8>, AllocError>
+fn join_bytes(alloc: Global, name: &[u8], raise: bool, room: usize) -> Result<Vec<u8>, AllocError>
     ensures { IfOk result (λ joined. joined.items ≡ joined_words raise name.now) }
 {
-    let mut joined = Vec::from_slice(alloc, name)?;
+    let mut joined = Vec::with_capacity(alloc, name.len().saturating_add(room))?;
+    joined.extend_from_slice(name)?;
     let kept = join_in_place(&mut joined, 0, raise);
     joined.truncate(kept);
     Ok(joined)

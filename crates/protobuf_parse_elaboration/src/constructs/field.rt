@@ -1,4 +1,7 @@
 //! Fields and groups.
+//!
+//! What describes a field stands in its callers (`#[inline(always)]`), so that a descriptor of 240
+//! bytes is not handed up from call to call: docs/PERFORMANCE.md.
 
 ghost use Rattle.std.specs.Prelude.{◌≡◌, ◌++◌, map, IfOk};
 ghost use Rattle.protobuf_parse_syntax.specs.Trees.{field_syntax, group_syntax, option_syntax};
@@ -29,6 +32,7 @@ use protobuf_parse_syntax::{Field, Group, ProtobufOption, Syntax, Type};
 use std::alloc::{AllocError, Global};
 
 /// The descriptor of a field that stands there among oneofs and extensions.
+#[inline(always)]
 pub fn field_descriptor<C: CustomOptions>(
     at: &Viewpoint<'_, '_, C>,
     faults: &mut Vec<ElabError>,
@@ -46,6 +50,7 @@ pub fn field_descriptor<C: CustomOptions>(
 }
 
 /// The descriptor of a field of that type.
+#[inline(always)]
 fn field_with<C: CustomOptions>(
     at: &Viewpoint<'_, '_, C>,
     faults: &mut Vec<ElabError>,
@@ -87,6 +92,7 @@ pub struct FieldSaid {
 }
 
 /// What the options of a field of that type and name say.
+#[inline(always)]
 fn field_said<C: CustomOptions>(
     at: &Viewpoint<'_, '_, C>,
     faults: &mut Vec<ElabError>,
@@ -108,6 +114,28 @@ fn field_said<C: CustomOptions>(
             json_name: json_name(at.alloc, name)?,
             options: None,
         });
+    }
+    said_by_list(at, faults, kind, name, options)
+}
+
+/// What the options of this list say of a field of that type and name. For one alone, as most lists
+/// have, no memory is asked for.
+#[inline(never)]
+fn said_by_list<C: CustomOptions>(
+    at: &Viewpoint<'_, '_, C>,
+    faults: &mut Vec<ElabError>,
+    kind: FieldType,
+    name: &str,
+    options: &[ProtobufOption],
+) -> Result<FieldSaid, AllocError>
+    ensures value { let env = seen_from C.customs at.now in
+        IfOk result (λ s. said_view s ≡ said_by env kind name.now (map option_syntax options.now)) }
+    ensures faults { let env = seen_from C.customs at.now in
+        Tells result faults.old faults.new
+        (fields.faults_of_options env kind name.now (map option_syntax options.now)) }
+{
+    if let [only] = options {
+        return said_by_options(at, faults, kind, name, &[only]);
     }
     let options = options_of(at.alloc, options)?;
     said_by_options(at, faults, kind, name, &options)

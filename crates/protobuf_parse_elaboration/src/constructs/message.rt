@@ -164,7 +164,7 @@ fn scope_inside<'a>(
 ) -> Result<Vec<&'a str>, AllocError>
     ensures { IfOk result (λ v. name_texts v.items ≡ names.inside (name_texts scope.now) name.now) }
 {
-    let mut inner = Vec::new(alloc);
+    let mut inner = Vec::with_capacity(alloc, scope.len() + 1)?;
     inner.extend_from_slice(scope)?;
     inner.push(name)?;
     Ok(inner)
