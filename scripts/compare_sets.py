@@ -137,7 +137,8 @@ def main():
                 paths.append(path)
             else:
                 counts["refused by protoc"] += 1
-        by_program(os.path.abspath(given.program), includes, paths, room)
+        if paths:
+            by_program(os.path.abspath(given.program), includes, paths, room)
         for at, path in enumerate(paths):
             result, wrong = told(at, path, room)
             counts[result] += 1

@@ -19,7 +19,7 @@ this page.
 
 `rt plant CRATE` makes wrong bodies by itself and lists those that a crate's contracts let through. Let
 through on purpose are: another of the faults S8, S11, S12, S16 and S17 where several stand at one token;
-`is_one_space` of the lexer always `false`, by which blanks are passed more slowly; and a tokenizer that
+`short_number` of the lexer that finds none, by which numbers are cut more slowly; and a tokenizer that
 keeps nothing behind the last token of a text, where nobody reads on.
 
 | crate | what it would do | in place of | there would stand |
