@@ -104,7 +104,8 @@ pub fn scalar_of(word: &str) -> Option<Scalar>
 /// Whether a statement of another kind begins with the word, so that no field does.
 #[inline(always)]
 pub fn is_statement_word(word: &str) -> bool
-    ensures { result ≡ class.is_among word.now grammar.statement_words }
+    ensures among { result ≡ class.is_among word.now grammar.statement_words }
+    ensures taken { result ≡ takes (class.words grammar.statement_words) word.now }
 {
     is_same(word, "reserved")
         || is_same(word, "oneof")
@@ -115,14 +116,6 @@ pub fn is_statement_word(word: &str) -> bool
         || is_same(word, "option")
 }
 
-/// The same, as the class of such words sees it.
-#[inline(always)]
-fn takes_statement_word(word: &str) -> bool
-    ensures { result ≡ takes (class.words grammar.statement_words) word.now }
-{
-    is_statement_word(word)
-}
-
 /// Whether a word comes next with which a statement of another kind than a field begins.
 #[inline(always)]
 #[tactic(auto, using(crate::proofs::Words::word_starts, crate::proofs::Words::signs_start, crate::proofs::Words::nothing_starts))]
@@ -130,7 +123,7 @@ pub fn sees_statement_word(tokens: &Cursor<'_>) -> bool
     ensures { result ≡ starts lexicon (class.words grammar.statement_words) (left tokens.now) }
 {
     match tokens.next_word() {
-        Some(word) => takes_statement_word(word),
+        Some(word) => is_statement_word(word),
         None => false,
     }
 }

@@ -7,6 +7,6 @@ use Rattle.protobuf_parse_syntax.proofs.parser.words.sees_statement_word.Goals a
 
 pub returns-in-Some : goal.returns-in-Some
 returns-in-Some c =
-    c.takes_statement_word.ensures
+    c.is_statement_word.ensures.taken
     ∙ sym (word_starts (words statement_words) (left c.args.tokens.now) c.in-Some.word.now
     c.in-Some.ensures)
