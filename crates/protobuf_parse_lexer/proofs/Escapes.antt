@@ -1,9 +1,9 @@
 -- A text stands for one list of bytes.
 use Rattle.std.proofs.Common.{◌≡◌, ℕ, zero, suc, ◌+◌, ◌<◌, ◌≤◌, true, List, [], ◌∷◌, ◌++◌, length}
 use Rattle.std.proofs.Common.{map, take, drop, get_or, slice_index, refl, sym, ap, ◌∙◌, subst, inl}
-use Rattle.std.proofs.Common.{inr, arith, append_assoc, append-nil, get_or-take, Bool, false, ◌&&◌}
+use Rattle.std.proofs.Common.{inr, arith, append_assoc, append-nil, get_or-take}
 use Rattle.std.specs.List.{list_all}
-use Rattle.std.proofs.lemmas.Bool.{false≢true}
+use Rattle.std.proofs.lemmas.Bool.{false≢true, and_parts}
 use Rattle.std.proofs.lemmas.List.{get_or-map, length-map, take_more}
 use Rattle.protobuf_parse_lexer.specs.Scan.{is_no_backslash}
 use Rattle.protobuf_parse_lexer.specs.Text.{Bytes, is_in, AllIn}
@@ -155,13 +155,9 @@ wrong_piece f xs i x z within is bytes bad v all =
 no_backslash : (b : ℕ) → is_no_backslash b ≡ true → b ≡ 92 → ⊥
 no_backslash b h e = false≢true (subst (λ x. is_no_backslash x ≡ true) e h)
 
-both_true : (a b : Bool) → (a && b) ≡ true → (a ≡ true) × (b ≡ true)
-both_true true b h = (refl, h)
-both_true false b h = absurd (false≢true h)
-
 -- a piece without backslashes stands for itself
 pub plain_decodes : (z : Bytes) → list_all is_no_backslash z ≡ true → Decodes z z
 plain_decodes [] h = done
 plain_decodes (b ∷ z) h =
-    let p = both_true (is_no_backslash b) (list_all is_no_backslash z) h in
+    let p = and_parts (is_no_backslash b) (list_all is_no_backslash z) h in
     plain b (no_backslash b p.0) (plain_decodes z p.1)

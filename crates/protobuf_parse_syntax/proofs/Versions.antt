@@ -2,6 +2,7 @@
 -- apart: in a form that is the same for both.
 use Rattle.std.proofs.Common.{◌≡◌, ℕ, List, [], ◌∷◌, Bool, true, false, ◌||◌, cond, codes, drop}
 use Rattle.std.proofs.Common.{refl, sym, ◌∙◌, Option, Some, Result, Ok, Err}
+use Rattle.std.proofs.lemmas.Bool.{or_parts}
 use Rattle.protobuf_parse_base.specs.Relations.{somes}
 use Rattle.protobuf_parse_base.specs.Readers.{Rest, end, token, Read, read, bind, starts}
 use Rattle.protobuf_parse_base.specs.Readers.{starts-append}
@@ -59,10 +60,6 @@ pub puts_some : {X Y : Type 0} (view : X → Y) (result : Result (Unit {0}) Refu
     → PutsSome view result old new after total
 puts_some view (Ok u) old new after r total h (x, e, f) = (Some x, e, h ∙ rw f refl)
 puts_some view (Err e) old new after r total h g = made_fails Some e after r total h g
-
-both_no : (a b : Bool) → (a || b) ≡ false → (a ≡ false) × (b ≡ false)
-both_no true b h = absurd cc
-both_no false b h = (refl, h)
 
 -- ---- services
 
@@ -181,10 +178,10 @@ module _ (w : Bytes) (ws : List Bytes) (ts : Rest Lexeme Place)
   neither = sym (starts-append lexicon (word w ∷ []) (words ws) ts) ∙ h
 
   first_no : says w ts ≡ false
-  first_no = (both_no (says w ts) (starts lexicon (words ws) ts) neither).0
+  first_no = (or_parts (says w ts) (starts lexicon (words ws) ts) neither).0
 
   rest_no : starts lexicon (words ws) ts ≡ false
-  rest_no = (both_no (says w ts) (starts lexicon (words ws) ts) neither).1
+  rest_no = (or_parts (says w ts) (starts lexicon (words ws) ts) neither).1
 
 -- a field, where no statement of another kind begins
 pub message_plain : (s : Syntax) (n : ℕ) (ts : Rest Lexeme Place)
