@@ -161,3 +161,7 @@ plain_decodes [] h = done
 plain_decodes (b ∷ z) h =
     let p = and_parts (is_no_backslash b) (list_all is_no_backslash z) h in
     plain b (no_backslash b p.0) (plain_decodes z p.1)
+
+-- a piece alone
+pub plain_alone : (z : Bytes) → list_all is_no_backslash z ≡ true → DecodesAll (z ∷ []) z
+plain_alone z h = push_all [] z [] z none (plain_decodes z h)

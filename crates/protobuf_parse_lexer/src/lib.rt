@@ -11,7 +11,7 @@ pub use lexer::laws::{
     cuts_are_unique, decoding_is_unique, escaped_bytes_decode, one_stream_lies_ahead,
     places_count_characters, strings_are_decoded, strings_are_quoted, texts_tell_kinds,
 };
-pub use lexer::str_lit::{StrLit, StrLitDecodeError, unquoted};
+pub use lexer::str_lit::{StrLit, StrLitDecodeError, stands_for_itself, unquoted};
 pub use lexer::token::{Place, Token, TokenKind, TokenStream};
 pub use lexer::tokenize;
 pub use lexer::tokenizer::{NextToken, Tokenizer};

@@ -258,3 +258,18 @@ module _ (ts us : Rest Lexeme Place) (text : Bytes) (is : reserved_name.run ts �
             (λ v h. no_path v h.0.0 h.1),
         (x.0, us, x.1, (text, x.2, its)),
       )
+
+-- ---- a string of one token
+
+one_piece : (ts us : Rest Lexeme Place) (z : Bytes) → piece.run ts ≡ read z us
+    → starts lexicon (string_token ∷ []) us ≡ false → str.run ts ≡ read (z ∷ []) us
+unfolding str
+one_piece ts us z e h = rw (e, many-law piece refl us, h) refl
+
+-- which stands for what is written
+pub says_itself : (ts us : Rest Lexeme Place) (z : Bytes) → piece.run ts ≡ read z us
+    → starts lexicon (string_token ∷ []) us ≡ false → StandsFor (z ∷ []) z
+    → reserved_name.run ts ≡ read z us
+unfolding reserved_name
+says_itself ts us z e h itself =
+    says StandsFor text_of text-to text-from ts us (z ∷ []) (one_piece ts us z e h) z itself

@@ -1,8 +1,8 @@
 -- No public clause rests on this file.
 -- What the parser's functions say of readers.
-use Rattle.std.specs.Prelude.{◌≡◌, ◌⊎◌, ℕ, Bool, true, false, Option, None, List, [], ◌∷◌, ◌++◌}
+use Rattle.std.specs.Prelude.{◌≡◌, ◌⊎◌, ℕ, Bool, true, false, Option, Some, None, List, [], ◌∷◌}
+use Rattle.std.specs.Prelude.{◌++◌, Result, Ok, Err}
 use Rattle.std.specs.Option.{option_to_list}
-use Rattle.std.specs.Prelude.{Result, Ok, Err}
 use Rattle.std.proofs.Common.{ap, ◌∙◌, refl}
 use Rattle.protobuf_parse_base.specs.Characters as char
 use Rattle.protobuf_parse_base.specs.Readers.{Rest, end, token, onto, Read, read, stuck, wrong}
@@ -148,6 +148,13 @@ abbrev pub Gives : {X Y : Type 0} → (X → Y) → Result X Refusal → Rest Le
     → Read Lexeme Place Y → Type 0
 Gives view (Ok x) after r = r ≡ read (view x) after
 Gives view (Err e) after r = Fails e after r
+
+-- What a function returned, if it returned anything, seen by view, is what was read, and the cursor
+-- stands behind it; else it stands where it stood.
+abbrev pub GivesSome : {X Y : Type 0} → (X → Y) → Option X → Rest Lexeme Place → Rest Lexeme Place
+    → Read Lexeme Place Y → Type 0
+GivesSome view (Some x) before after r = r ≡ read (view x) after
+GivesSome view None before after r = after ≡ before
 
 -- What a function put behind a list, seen by view, is what was read, and the cursor stands behind it
 -- or at the fault, unless memory ran out.

@@ -1,12 +1,12 @@
 //! What strings say.
 
-ghost use Rattle.std.specs.Prelude.{◌≡◌, ◌<◌, ◌≤◌, ℕ, ◌++◌, true, length, map, MatchOption, OnOk};
-ghost use Rattle.std.specs.Prelude.{IfOk, IfErr, string_bytes};
+ghost use Rattle.std.specs.Prelude.{◌≡◌, ◌<◌, ◌≤◌, ℕ, [], ◌∷◌, ◌++◌, true, length, map, MatchOption};
+ghost use Rattle.std.specs.Prelude.{OnOk, IfOk, IfErr, string_bytes};
 ghost use Rattle.std.specs.List.{list_all};
 ghost use Rattle.protobuf_parse_lexer.specs.Scan.{is_no_backslash};
 ghost use Rattle.protobuf_parse_lexer.specs.Text.{is_in};
 ghost use Rattle.protobuf_parse_lexer.specs.Tokens as tokens;
-ghost use Rattle.protobuf_parse_lexer.specs.Tokens.{IsDigits, DecodesAll};
+ghost use Rattle.protobuf_parse_lexer.specs.Tokens.{IsDigits, DecodesAll, StandsFor};
 ghost use Rattle.protobuf_parse_lexer.specs.Decoding.{NamesByte, NamesNoByte, NamesChar};
 ghost use Rattle.protobuf_parse_lexer.specs.Decoding.{NamesNoChar, HasEscape, HasNoEscape};
 ghost use Rattle.protobuf_parse_lexer.specs.Decoding.{HasPart, HasNoPart, meaning_bytes};
@@ -216,6 +216,14 @@ fn has_no_backslash(piece: &[u8]) -> bool
     piece.iter().all(|byte| *byte != b'\\')
 }
 
+/// Whether no escape begins in a piece, as in most: a string of it alone stands for what is written.
+#[tactic(auto, using(crate::proofs::Escapes::plain_alone))]
+pub fn stands_for_itself(piece: &str) -> bool
+    ensures { result ≡ true → StandsFor (piece.now ∷ []) piece.now }
+{
+    has_no_backslash(piece.as_bytes())
+}
+
 /// Puts what a piece stands for behind the bytes.
 fn push_piece(bytes: &mut Vec<u8>, piece: &[u8]) -> Result<(), StrLitDecodeError>
     ensures { PushesPiece piece.now bytes.old.items bytes.new.items result }
@@ -262,6 +270,11 @@ impl StrLit {
             (λ t. DecodesAll (map string_bytes self.now.pieces.items) (string_bytes t)) }
         ensures refused { IfErr result (RefusesText (map string_bytes self.now.pieces.items)) }
     {
+        if let [only] = self.pieces.as_slice() {
+            if stands_for_itself(only) {
+                return Ok(only.clone()?);
+            }
+        }
         match String::from_utf8(self.decode_bytes(alloc)?) {
             Ok(text) => Ok(text),
             Err(_) => Err(StrLitDecodeError::NotUtf8),

@@ -266,15 +266,14 @@ impl<'text> Cursor<'text> {
     }
 
     /// Reads a string token, of which this is the text between the quotes. S8 at any other token.
-    pub fn piece(&mut self, alloc: Global) -> Result<String, Refusal>
-        ensures { Gives string_bytes result (left self.new) (read.piece.run (left self.old)) }
+    pub fn piece(&mut self) -> Result<&'text str, Refusal>
+        ensures { Gives (λ z. z.now) result (left self.new) (read.piece.run (left self.old)) }
     {
         let next = self.tokens.next;
         match next {
             Some(token) if token.is_str() => {
-                let piece = String::from_str(alloc, unquoted(token.text))?;
                 self.advance();
-                Ok(piece)
+                Ok(unquoted(token.text))
             }
             _ => Err(Refusal::Next(ParserError::IncorrectInput)),
         }

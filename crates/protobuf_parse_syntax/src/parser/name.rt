@@ -3,12 +3,12 @@
 ghost use Rattle.std.specs.Prelude.{◌≡◌, string_bytes};
 ghost use Rattle.protobuf_parse_syntax.specs.Productions as read;
 ghost use Rattle.protobuf_parse_syntax.specs.Trees.{pieces_of};
-ghost use Rattle.protobuf_parse_syntax.specs.Code.{left, Gives, GivesOr, Unsaid, of_text};
-ghost use Rattle.protobuf_parse_syntax.specs.Code.{refusal_of};
+ghost use Rattle.protobuf_parse_syntax.specs.Code.{left, Gives, GivesOr, GivesSome, Unsaid};
+ghost use Rattle.protobuf_parse_syntax.specs.Code.{of_text, refusal_of};
 
 use crate::parser::cursor::Cursor;
 use crate::parser::refusal::Refusal;
-use protobuf_parse_lexer::{ParserError, StrLit, StrLitDecodeError};
+use protobuf_parse_lexer::{ParserError, StrLit, StrLitDecodeError, stands_for_itself};
 use std::alloc::Global;
 
 /// The room that is asked for a name with dots, which most need no more of.
@@ -71,18 +71,45 @@ pub fn name(alloc: Global, tokens: &mut Cursor<'_>) -> Result<String, Refusal>
 pub fn string(alloc: Global, tokens: &mut Cursor<'_>) -> Result<StrLit, Refusal>
     ensures { Gives pieces_of result (left tokens.new) (read.str.run (left tokens.old)) }
 {
+    let first = tokens.piece()?;
     let mut pieces = Vec::with_capacity(alloc, 1)?;
-    pieces.push(tokens.piece(alloc)?)?;
+    pieces.push(String::from_str(alloc, first)?)?;
     'others: while tokens.sees_str() {
-        let piece = tokens.piece(alloc)?;
-        pieces.push(piece)?;
+        let piece = tokens.piece()?;
+        pieces.push(String::from_str(alloc, piece)?)?;
     }
     Ok(StrLit { pieces })
 }
 
 /// The text that a string stands for. S15 at the string where it stands for none.
-#[tactic(auto, unfolding(crate::specs::Productions::reserved_name), using(crate::specs::Code::fails_first))]
 pub fn text(alloc: Global, tokens: &mut Cursor<'_>) -> Result<String, Refusal>
+    ensures { GivesOr (Unsaid of_text (left tokens.old)) string_bytes result (left tokens.new)
+        (read.reserved_name.run (left tokens.old)) }
+{
+    match plain_text(tokens) {
+        Some(text) => Ok(String::from_str(alloc, text)?),
+        None => decoded_text(alloc, tokens),
+    }
+}
+
+/// The text that a string of one token without escapes stands for, as most are.
+fn plain_text<'text>(tokens: &mut Cursor<'text>) -> Option<&'text str>
+    ensures { GivesSome (λ z. z.now) result (left tokens.old) (left tokens.new)
+        (read.reserved_name.run (left tokens.old)) }
+{
+    let before = *tokens;
+    if let Ok(piece) = tokens.piece() {
+        if !tokens.sees_str() && stands_for_itself(piece) {
+            return Some(piece);
+        }
+    }
+    *tokens = before;
+    None
+}
+
+/// The text that any string stands for.
+#[tactic(auto, unfolding(crate::specs::Productions::reserved_name), using(crate::specs::Code::fails_first))]
+fn decoded_text(alloc: Global, tokens: &mut Cursor<'_>) -> Result<String, Refusal>
     ensures { GivesOr (Unsaid of_text (left tokens.old)) string_bytes result (left tokens.new)
         (read.reserved_name.run (left tokens.old)) }
 {

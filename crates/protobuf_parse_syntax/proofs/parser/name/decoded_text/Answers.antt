@@ -7,7 +7,7 @@ use Rattle.protobuf_parse_syntax.specs.Productions.{reserved_name}
 use Rattle.protobuf_parse_syntax.specs.Trees.{pieces_of}
 use Rattle.protobuf_parse_syntax.specs.Code.{left}
 use Rattle.protobuf_parse_syntax.proofs.Strings.{says, fails_text}
-use Rattle.protobuf_parse_syntax.proofs.parser.name.text.Goals as goal
+use Rattle.protobuf_parse_syntax.proofs.parser.name.decoded_text.Goals as goal
 
 pub returns-in-Ok : goal.returns-in-Ok
 unfolding reserved_name
