@@ -15,11 +15,12 @@ use Rattle.protobuf_parse_model.specs.Environment.{Environment}
 use Rattle.protobuf_parse_model.specs.Statements.{field_statement_name, is_map, oneof_fields}
 use Rattle.protobuf_parse_elaboration.specs.Parts.{BodyParts, FieldAndMessage, FieldsAndMessages}
 use Rattle.protobuf_parse_elaboration.specs.Parts.{body_of, body_view, field_declared_by}
-use Rattle.protobuf_parse_elaboration.specs.Parts.{extensions_declared, fields_declared}
+use Rattle.protobuf_parse_elaboration.specs.Parts.{extensions_declared}
 use Rattle.protobuf_parse_elaboration.specs.Parts.{with_body_statement}
 use Rattle.protobuf_parse_elaboration.specs.Fields.{FieldOwner, field_statement_of}
 use Rattle.protobuf_parse_elaboration.specs.Messages.{entries_of, enums_of, extending, extended_of}
 use Rattle.protobuf_parse_elaboration.specs.Messages.{fields_of, has_own_oneof, at_oneof, nested_of}
+use Rattle.protobuf_parse_elaboration.specs.Messages.{messages_behind}
 use Rattle.protobuf_parse_elaboration.specs.Messages.{oneof_of, oneofs_of, own_oneof, own_oneof_of}
 use Rattle.protobuf_parse_elaboration.specs.FileParts.{parts_view, with_file_statement}
 use Rattle.protobuf_parse_elaboration.specs.declared.constructs.body.Body.{Body}
@@ -39,19 +40,20 @@ module _ (env : Environment) (old new : Body) (index : ℕ) (one : OneofDescript
   place_is : index ≡ length (map oneof_view old.oneof_decl.items)
   place_is = same ∙ sym (length-map old.oneof_decl.items oneof_view)
 
-  pub with_oneof : (o : OneofSyntax) (d : FieldsAndMessages)
-      → d ≡ fields_declared env (at_oneof index) (flat_map oneof_fields o.body)
-      → one ≡ oneof_of env o → map field_view new.field.items ≡ map field_view old.field.items
-      ++ d.fields → map message_view new.nested_type.items ≡ map message_view old.nested_type.items
-      ++ d.behind → body_view new ≡ with_body_statement env (body_view old) (message_oneof o)
-  with_oneof o d is one_is fields nested =
+  pub with_oneof : (o : OneofSyntax) → let ss = flat_map oneof_fields o.body in
+      one ≡ oneof_of env o
+      → map field_view new.field.items
+      ≡ map field_view old.field.items ++ map (field_statement_of env (at_oneof index)) ss
+      → map message_view new.nested_type.items
+      ≡ map message_view old.nested_type.items ++ flat_map (messages_behind env) ss
+      → body_view new ≡ with_body_statement env (body_view old) (message_oneof o)
+  with_oneof o one_is fields nested =
       rw (
         fields,
         nested,
         oneofs,
         enums,
         extensions,
-        is,
         one_is,
         place_is,
         append-nil (map enum_view old.enum_type.items),

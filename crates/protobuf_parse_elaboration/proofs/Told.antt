@@ -1,15 +1,20 @@
 -- Names that stand twice, each told at its place.
 use Rattle.std.proofs.Common.{◌≡◌, ◌∙◌, List, [], ◌∷◌, ◌++◌, map, refl, sym, ap, append_assoc}
 use Rattle.std.proofs.Common.{flat_map, append-nil, Bool, true, false, cond, length}
-use Rattle.std.proofs.lemmas.List.{length-map}
+use Rattle.std.proofs.lemmas.List.{length-map, map-append}
 use Rattle.std.specs.Prelude.{not, ◌||◌}
 use Rattle.protobuf_parse_model.proofs.OrTests.{cond-true_or}
 use Rattle.protobuf_parse_lexer.specs.declared.lexer.token.Place.{Place}
+use Rattle.protobuf_parse_syntax.specs.Trees.{FieldSyntax, TypeSyntax, map_of}
 use Rattle.protobuf_parse_model.specs.Descriptors.{Text}
 use Rattle.protobuf_parse_model.specs.Duplicates.{NamedAt, duplicates, fault_when, repeats_after}
 use Rattle.protobuf_parse_model.specs.Duplicates.{stands_in}
 use Rattle.protobuf_parse_model.specs.Faults.{Fault, placed}
+use Rattle.protobuf_parse_model.specs.Environment.{Environment}
+use Rattle.protobuf_parse_model.specs.declared.descriptor.FieldType.{FieldType}
+use Rattle.protobuf_parse_model.specs.declared.descriptor.FieldType.TheVariants.{Message}
 use Rattle.protobuf_parse_model.specs.declared.error.ElabErrorKind.TheVariants.{DuplicateName}
+use Rattle.protobuf_parse_elaboration.specs.Fields.{faults_of_options, field_faults, type_faults}
 
 abbrev pub names_of : List NamedAt → List Text
 names_of xs = map (λ (n : NamedAt). n.name) xs
@@ -102,6 +107,15 @@ pub each_alone : {A B : Type 0} (declares : B → NamedAt) (view : A → B) (xs 
 each_alone declares view [] = refl
 each_alone declares view (x ∷ xs) = ap (λ ds. declares (view x) ∷ ds) (each_alone declares view xs)
 
+-- the same where some declare several things, and some none
+pub each_among : {A B C : Type 0} (declares : C → NamedAt) (parts : B → List C) (view : A → B)
+    (xs : List A) → flat_map (λ x. map declares (parts (view x))) xs
+    ≡ map declares (flat_map parts (map view xs))
+each_among declares parts view [] = refl
+each_among declares parts view (x ∷ xs) =
+    ap (λ ds. map declares (parts (view x)) ++ ds) (each_among declares parts view xs)
+    ∙ sym (map-append declares (parts (view x)) (flat_map parts (map view xs)))
+
 -- ---- what is told kind by kind
 
 pub four_told : (f0 f1 f2 f3 f4 d1 d2 d3 d4 : List Fault) → f1 ≡ f0 ++ d1 → f2 ≡ f1 ++ d2
@@ -117,3 +131,15 @@ pub five_told : (f0 f1 f2 f3 f4 f5 d1 d2 d3 d4 d5 : List Fault) → f1 ≡ f0 ++
 five_told f0 f1 f2 f3 f4 f5 d1 d2 d3 d4 d5 e1 e2 e3 e4 e5 =
     e5 ∙ ap (λ f. f ++ d5) (four_told f0 f1 f2 f3 f4 d1 d2 d3 d4 e1 e2 e3 e4)
     ∙ append_assoc f0 (d1 ++ d2 ++ d3 ++ d4) d5
+
+-- what is told of a map's types, and then of its options
+pub map_told : (env : Environment) (f : FieldSyntax) (key value : TypeSyntax)
+    (f0 f1 f2 : List Fault) (k : FieldType) → f.type_ ≡ map_of key value → k ≡ Message
+    → f1 ≡ f0 ++ placed f.place (type_faults env f.name (map_of key value))
+    → f2 ≡ f1 ++ faults_of_options env k f.name f.options → f2 ≡ f0 ++ field_faults env f
+map_told env f key value f0 f1 f2 k map_is kind_is types options =
+    let all : (placed f.place (type_faults env f.name (map_of key value))
+    ++ faults_of_options env k f.name f.options) ≡ field_faults env f = rw (map_is, kind_is) refl in
+    options ∙ ap (λ fs. fs ++ faults_of_options env k f.name f.options) types
+    ∙ append_assoc f0 (placed f.place (type_faults env f.name (map_of key value)))
+    (faults_of_options env k f.name f.options) ∙ ap (λ fs. f0 ++ fs) all

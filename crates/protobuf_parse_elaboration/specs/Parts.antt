@@ -29,13 +29,9 @@ use Rattle.protobuf_parse_elaboration.specs.Messages.{messages_behind, oneofs_of
 use Rattle.protobuf_parse_elaboration.specs.Messages.{fields_from, nested_of, enums_of, extended_of}
 use Rattle.protobuf_parse_elaboration.specs.Messages.{extension_ranges, reserves, options_of_body}
 use Rattle.protobuf_parse_syntax.specs.Trees.{OptionSyntax, FieldStatementSyntax}
-use Rattle.protobuf_parse_syntax.specs.Trees.{MessageStatementSyntax, ReservedSyntax}
-use Rattle.protobuf_parse_syntax.specs.Trees.{EnumValueSyntax, MethodSyntax, reserved_syntax}
-use Rattle.protobuf_parse_syntax.specs.Trees.{value_syntax, method_syntax, field_statement_syntax}
-use Rattle.protobuf_parse_syntax.specs.declared.tree.field.FieldStatement.{FieldStatement}
+use Rattle.protobuf_parse_syntax.specs.Trees.{MessageStatementSyntax}
+use Rattle.protobuf_parse_syntax.specs.Trees.{MethodSyntax, method_syntax}
 use Rattle.protobuf_parse_syntax.specs.declared.tree.declaration.Method.{Method}
-use Rattle.protobuf_parse_syntax.specs.declared.tree.declaration.Reserved.{Reserved}
-use Rattle.protobuf_parse_syntax.specs.declared.tree.declaration.EnumValue.{EnumValue}
 use Rattle.protobuf_parse_elaboration.specs.Messages.{exclusive}
 use Rattle.protobuf_parse_elaboration.specs.Enums.{names_reserved, ranges_reserved}
 use Rattle.protobuf_parse_elaboration.specs.declared.constructs.rest.Rest.{Rest}
@@ -46,18 +42,9 @@ use Rattle.protobuf_parse_elaboration.specs.Fields.{FieldTypeOf}
 abbrev pub resolved_view : ResolvedType → FieldTypeOf
 resolved_view r = record { kind = r.kind; name = option_map string_bytes r.name }
 
--- what references to parts of the tree see
-abbrev pub reserves_seen : List (Bor Reserved) → List ReservedSyntax
-reserves_seen rs = map (λ (r : Bor Reserved). reserved_syntax r.now) rs
-
-abbrev pub values_seen : List (Bor EnumValue) → List EnumValueSyntax
-values_seen vs = map (λ (v : Bor EnumValue). value_syntax v.now) vs
-
+-- what references to methods see
 abbrev pub methods_seen : List (Bor Method) → List MethodSyntax
 methods_seen ms = map (λ (m : Bor Method). method_syntax m.now) ms
-
-abbrev pub statements_seen : List (Bor FieldStatement) → List FieldStatementSyntax
-statements_seen ss = map (λ (s : Bor FieldStatement). field_statement_syntax s.now) ss
 
 -- a field, and the message behind it, if one stands there
 pub record FieldAndMessage : Type 0 where
@@ -94,15 +81,6 @@ pub record FieldsAndMessages : Type 0 where
 abbrev pub fields_view : DeclaredFields → FieldsAndMessages
 fields_view d =
     record { fields = map field_view d.fields.items; behind = map message_view d.behind.items }
-
-abbrev pub fields_declared : Environment → fields.FieldOwner → List FieldStatementSyntax
-    → FieldsAndMessages
-fields_declared env place ss =
-    record {
-      fields = map (fields.field_statement_of env place) ss;
-      behind =
-          flat_map (messages_behind env) ss;
-    }
 
 abbrev pub extensions_declared : Environment → fields.FieldOwner → List FieldStatementSyntax
     → FieldsAndMessages

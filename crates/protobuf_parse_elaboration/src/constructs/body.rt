@@ -17,7 +17,9 @@ ghost use Rattle.protobuf_parse_elaboration.specs.Telling.{Tells};
 
 use crate::constructs::enumeration::enum_descriptor;
 use crate::constructs::field::{field_descriptor, is_map};
-use crate::constructs::lists::{append_declared, fields_of_extend, fields_of_oneof, shrunk};
+use crate::constructs::lists::{
+    append_declared, fields_of_extend, push_fields_of_oneof, shrunk,
+};
 use crate::constructs::oneof::{has_own_oneof, oneof_descriptor, own_oneof};
 use crate::constructs::owner::FieldOwner;
 use crate::constructs::rest::Rest;
@@ -225,10 +227,11 @@ pub fn add_oneof<C: CustomOptions>(
         extendee: None,
         oneof_index: Some(body.oneof_decl.len()),
     };
-    let declared = fields_of_oneof(at, faults, &owner, oneof)?;
+    let (fields, messages) = (&mut body.field, &mut body.nested_type);
+    push_fields_of_oneof(at, faults, &owner, oneof, fields, messages)?;
     let descriptor = oneof_descriptor(at, faults, oneof)?;
     body.oneof_decl.push(descriptor)?;
-    append_declared(&mut body.field, &mut body.nested_type, declared)
+    Ok(())
 }
 
 /// Adds the extensions of an `extend`, and the messages behind their groups.

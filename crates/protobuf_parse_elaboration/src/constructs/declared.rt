@@ -7,7 +7,7 @@ ghost use Rattle.protobuf_parse_model.specs.Duplicates.{NamedAt};
 ghost use Rattle.protobuf_parse_model.specs.Statements.{groups, oneof_fields};
 ghost use Rattle.protobuf_parse_elaboration.specs.declared.constructs.declared.DeclaredAs.{DeclaredAs};
 ghost use Rattle.protobuf_parse_elaboration.specs.Declaring.{named_by, named_by_file};
-ghost use Rattle.protobuf_parse_elaboration.specs.Enums.{value_named};
+ghost use Rattle.protobuf_parse_elaboration.specs.Enums.{enum_values, value_named};
 ghost use Rattle.protobuf_parse_elaboration.specs.Fields.{field_named};
 ghost use Rattle.protobuf_parse_elaboration.specs.Messages as messages;
 ghost use Rattle.protobuf_parse_elaboration.specs.Services.{method_named};
@@ -15,7 +15,7 @@ ghost use Rattle.protobuf_parse_elaboration.specs.Services.{method_named};
 use crate::constructs::oneof::has_own_oneof;
 use protobuf_parse_lexer::Place;
 use protobuf_parse_syntax::{
-    EnumValue, Enumeration, Extend, FieldStatement, FileStatement, Message, MessageStatement,
+    EnumStatement, Enumeration, Extend, FieldStatement, FileStatement, Message, MessageStatement,
     Method, OneOf, OneOfStatement, Service, Syntax, Type,
 };
 use std::alloc::{AllocError, Global};
@@ -64,8 +64,9 @@ pub fn places_of<S: Declares>(
     Ok(places)
 }
 
-impl Declares for &EnumValue {
-    ghost named_as = { λ declared syntax v. value_named (tree.value_syntax v.now) ∷ [] };
+impl Declares for EnumStatement {
+    ghost named_as = { λ declared syntax s.
+        map value_named (enum_values (tree.enum_statement_syntax s)) };
 
     fn push_places(
         &self,
@@ -73,8 +74,10 @@ impl Declares for &EnumValue {
         _syntax: Syntax,
         places: &mut Vec<Place>,
     ) -> Result<(), AllocError> {
-        places.push(self.place)?;
-        Ok(())
+        match self {
+            EnumStatement::Value(value) => push(places, value.place),
+            EnumStatement::Reserved(_) | EnumStatement::Option(_) => Ok(()),
+        }
     }
 }
 

@@ -1,6 +1,7 @@
 //! Enums.
 
 ghost use Rattle.std.specs.Prelude.{◌≡◌, ◌++◌, map, flat_map, option_map, string_bytes, IfOk};
+ghost use Rattle.std.specs.Prelude.{OnOk};
 ghost use Rattle.protobuf_parse_syntax.specs.Trees as tree;
 ghost use Rattle.protobuf_parse_model.specs.BuiltinOptions.{enum_table};
 ghost use Rattle.protobuf_parse_model.specs.Descriptors as described;
@@ -10,16 +11,16 @@ ghost use Rattle.protobuf_parse_model.specs.declared.customs.Construct.TheVarian
 ghost use Rattle.protobuf_parse_model.specs.Options.{enum_options_view};
 ghost use Rattle.protobuf_parse_model.specs.OptionMessages as sets;
 ghost use Rattle.protobuf_parse_elaboration.specs.ConstructOptions.{construct_faults};
-ghost use Rattle.protobuf_parse_elaboration.specs.Parts.{reserves_seen, values_seen};
 ghost use Rattle.protobuf_parse_elaboration.specs.Enums as enums;
 ghost use Rattle.protobuf_parse_elaboration.specs.Viewpoints.{seen_from};
 ghost use Rattle.protobuf_parse_elaboration.specs.Telling.{Tells};
 
 use crate::constructs::declared::DeclaredAs;
+use crate::constructs::lists::shrunk;
 use crate::constructs::options::{
     custom_bytes, enum_options, enum_value_options, options_in, options_of,
 };
-use crate::constructs::reserved::{inclusive_ranges, names_reserved, ranges_reserved};
+use crate::constructs::reserved::{push_clones, push_inclusive};
 use crate::constructs::told::tell_names;
 use crate::constructs::viewpoint::Viewpoint;
 use protobuf_parse_model::{
@@ -70,39 +71,24 @@ fn enum_values<C: CustomOptions>(
         let vs = flat_map enums.enum_values (map tree.enum_statement_syntax body.now) in
         Tells result faults.old faults.new (enums.values_faults env vs) }
 {
-    let values = values(at.alloc, body)?;
-    unlike_values(at, faults, &values)
-}
-
-/// The descriptors of these values. E1 where two have one name.
-fn unlike_values<C: CustomOptions>(
-    at: &Viewpoint<'_, '_, C>,
-    faults: &mut Vec<ElabError>,
-    values: &[&EnumValue],
-) -> Result<Vec<EnumValueDescriptorProto>, AllocError>
-    ensures value { let env = seen_from C.customs at.now in
-        IfOk result (λ v. map described.enum_value_view v.items
-        ≡ map (enums.value_of env) (values_seen values.now)) }
-    ensures faults { let env = seen_from C.customs at.now in
-        Tells result faults.old faults.new (enums.values_faults env (values_seen values.now)) }
-{
-    let descriptors = value_descriptors(at, faults, values)?;
-    tell_value_names(at, faults, values, &descriptors)?;
-    Ok(descriptors)
+    let values = value_descriptors(at, faults, body)?;
+    tell_value_names(at, faults, body, &values)?;
+    Ok(shrunk(values))
 }
 
 /// E1 where two of the values have one name. The descriptors are theirs.
 fn tell_value_names<C: CustomOptions>(
     at: &Viewpoint<'_, '_, C>,
     faults: &mut Vec<ElabError>,
-    values: &[&EnumValue],
+    body: &[EnumStatement],
     descriptors: &[EnumValueDescriptorProto],
 ) -> Result<(), AllocError>
     requires { let env = seen_from C.customs at.now in
         map described.enum_value_view descriptors.now
-        ≡ map (enums.value_of env) (values_seen values.now) }
-    ensures { Tells result faults.old faults.new
-        (duplicates (map enums.value_named (values_seen values.now))) }
+        ≡ map (enums.value_of env)
+        (flat_map enums.enum_values (map tree.enum_statement_syntax body.now)) }
+    ensures { let vs = flat_map enums.enum_values (map tree.enum_statement_syntax body.now) in
+        Tells result faults.old faults.new (duplicates (map enums.value_named vs)) }
 {
     let syntax = at.context.syntax;
     tell_names(
@@ -110,42 +96,29 @@ fn tell_value_names<C: CustomOptions>(
         faults,
         DeclaredAs::Other,
         syntax,
-        values,
+        body,
         descriptors,
     )
 }
 
-/// The values of an enum.
-fn values(alloc: Global, body: &[EnumStatement]) -> Result<Vec<&EnumValue>, AllocError>
-    ensures { IfOk result
-        (λ v. values_seen v.items
-        ≡ flat_map enums.enum_values (map tree.enum_statement_syntax body.now)) }
-{
-    let mut values = Vec::new(alloc);
-    for statement in body {
-        if let EnumStatement::Value(value) = statement {
-            values.push(value)?;
-        }
-    }
-    Ok(values)
-}
-
-/// Their descriptors.
+/// The descriptors of the values.
 fn value_descriptors<C: CustomOptions>(
     at: &Viewpoint<'_, '_, C>,
     faults: &mut Vec<ElabError>,
-    values: &[&EnumValue],
+    body: &[EnumStatement],
 ) -> Result<Vec<EnumValueDescriptorProto>, AllocError>
     ensures value { let env = seen_from C.customs at.now in
-        IfOk result (λ v. map described.enum_value_view v.items
-        ≡ map (enums.value_of env) (values_seen values.now)) }
+        let vs = flat_map enums.enum_values (map tree.enum_statement_syntax body.now) in
+        IfOk result (λ v. map described.enum_value_view v.items ≡ map (enums.value_of env) vs) }
     ensures faults { let env = seen_from C.customs at.now in
-        Tells result faults.old faults.new
-        (flat_map (enums.value_faults env) (values_seen values.now)) }
+        let vs = flat_map enums.enum_values (map tree.enum_statement_syntax body.now) in
+        Tells result faults.old faults.new (flat_map (enums.value_faults env) vs) }
 {
-    let mut descriptors = Vec::with_capacity(at.alloc, values.len())?;
-    for value in values {
-        descriptors.push(value_descriptor(at, faults, value)?)?;
+    let mut descriptors = Vec::with_capacity(at.alloc, body.len())?;
+    for statement in body {
+        if let EnumStatement::Value(value) = statement {
+            descriptors.push(value_descriptor(at, faults, value)?)?;
+        }
     }
     Ok(descriptors)
 }
@@ -205,26 +178,32 @@ fn reserved(alloc: Global, body: &[EnumStatement]) -> Result<EnumReserved, Alloc
         IfOk result (λ r. map string_bytes r.names.items
         ≡ flat_map enums.names_reserved (flat_map enums.enum_reserves ss)) }
 {
-    let reserves = reserves(alloc, body)?;
-    let names = names_reserved(alloc, &reserves)?;
-    let ranges = ranges_reserved(alloc, &reserves)?;
-    Ok(EnumReserved {
-        ranges: inclusive_ranges(alloc, &ranges)?,
-        names,
-    })
-}
-
-/// What an enum reserves.
-fn reserves(alloc: Global, body: &[EnumStatement]) -> Result<Vec<&Reserved>, AllocError>
-    ensures { IfOk result
-        (λ v. reserves_seen v.items
-        ≡ flat_map enums.enum_reserves (map tree.enum_statement_syntax body.now)) }
-{
-    let mut reserves = Vec::new(alloc);
+    let mut ranges = Vec::new(alloc);
+    let mut names = Vec::new(alloc);
     for statement in body {
         if let EnumStatement::Reserved(statement) = statement {
-            reserves.push(&statement.reserved)?;
+            push_reserved(&mut ranges, &mut names, &statement.reserved)?;
         }
     }
-    Ok(reserves)
+    Ok(EnumReserved { ranges, names })
+}
+
+/// Adds what a statement reserves.
+fn push_reserved(
+    ranges: &mut Vec<EnumReservedRange>,
+    names: &mut Vec<String>,
+    reserved: &Reserved,
+) -> Result<(), AllocError>
+    ensures ranges { let r = tree.reserved_syntax reserved.now in
+        OnOk result (map described.enum_range_view ranges.new.items
+        ≡ map described.enum_range_view ranges.old.items
+        ++ map enums.inclusive (enums.ranges_reserved r)) }
+    ensures names { let r = tree.reserved_syntax reserved.now in
+        OnOk result (map string_bytes names.new.items
+        ≡ map string_bytes names.old.items ++ enums.names_reserved r) }
+{
+    match reserved {
+        Reserved::Ranges(more) => push_inclusive(ranges, more),
+        Reserved::Names(more) => push_clones(names, more),
+    }
 }

@@ -51,7 +51,7 @@ pub fn field_descriptor<C: CustomOptions>(
 
 /// The descriptor of a field of that type.
 #[inline(always)]
-fn field_with<C: CustomOptions>(
+pub fn field_with<C: CustomOptions>(
     at: &Viewpoint<'_, '_, C>,
     faults: &mut Vec<ElabError>,
     owner: &FieldOwner<'_>,

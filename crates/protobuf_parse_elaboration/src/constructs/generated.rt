@@ -3,14 +3,14 @@
 ghost use Rattle.std.specs.Prelude.{◌≡◌, ◌++◌, map, flat_map, option_map, IfOk};
 ghost use Rattle.protobuf_parse_base.specs.DeclaredNames.{name_bytes};
 ghost use Rattle.protobuf_parse_syntax.specs.Trees.{field_statement_syntax, group_syntax};
-ghost use Rattle.protobuf_parse_syntax.specs.Trees.{type_syntax};
+ghost use Rattle.protobuf_parse_syntax.specs.Trees.{map_of, type_syntax};
 ghost use Rattle.protobuf_parse_model.specs.Descriptors as described;
 ghost use Rattle.protobuf_parse_model.specs.Duplicates.{duplicates, fault};
 ghost use Rattle.protobuf_parse_model.specs.Faults.{placed};
 ghost use Rattle.protobuf_parse_model.specs.Options.{message_options_view};
 ghost use Rattle.protobuf_parse_model.specs.Statements.{group_field_name};
 ghost use Rattle.protobuf_parse_model.specs.declared.error.ElabErrorKind.TheVariants.{DanglingTypeName};
-ghost use Rattle.protobuf_parse_elaboration.specs.Parts.{behind_seen, resolved_view};
+ghost use Rattle.protobuf_parse_elaboration.specs.Parts.{resolved_view};
 ghost use Rattle.protobuf_parse_elaboration.specs.Fields as fields;
 ghost use Rattle.protobuf_parse_elaboration.specs.Messages as messages;
 ghost use Rattle.protobuf_parse_elaboration.specs.Viewpoints.{seen_from};
@@ -23,32 +23,13 @@ use crate::constructs::told::tell_names;
 use crate::constructs::types::{ResolvedType, inner_type};
 use crate::constructs::viewpoint::Viewpoint;
 use protobuf_parse_base::Name;
+use protobuf_parse_lexer::Place;
 use protobuf_parse_model::{
     CustomOptions, DescriptorProto, ElabError, ElabErrorKind, FieldDescriptorProto, Label,
     MessageOptions, entry_name, group_field_name, tell,
 };
 use protobuf_parse_syntax::{FieldStatement, Group, Type};
 use std::alloc::{AllocError, Global};
-
-/// The message of a map's entries, where the type of the field of that name is a map's.
-#[inline(always)]
-pub fn map_entry<C: CustomOptions>(
-    at: &Viewpoint<'_, '_, C>,
-    name: &str,
-    type_: &Type,
-) -> Result<Option<Box<DescriptorProto>>, AllocError>
-    ensures { let env = seen_from C.customs at.now in
-        IfOk result (λ m. map described.message_view (behind_seen m)
-        ≡ messages.entries_of env name.now (type_syntax type_.now)) }
-{
-    match type_ {
-        Type::Map(key, value) => {
-            let entry = entry(at, name, key, value)?;
-            Ok(Some(boxed(at.alloc, entry)?))
-        }
-        Type::Scalar(_) | Type::Named(_) => Ok(None),
-    }
-}
 
 /// The message in a place of its own.
 pub fn boxed(alloc: Global, message: DescriptorProto) -> Result<Box<DescriptorProto>, AllocError>
@@ -57,21 +38,27 @@ pub fn boxed(alloc: Global, message: DescriptorProto) -> Result<Box<DescriptorPr
     Ok(Box::new(alloc, message)?)
 }
 
-/// The message of the entries of the map of that name. What is wrong in its types is told at the
-/// field.
-#[inline(never)]
-fn entry<C: CustomOptions>(
+/// The message of the entries of the map of that name.
+///
+/// Told at the place: E2 or E3 where the name of its key's or its value's type means none; E4 for a
+/// map.
+pub fn map_entry<C: CustomOptions>(
     at: &Viewpoint<'_, '_, C>,
+    faults: &mut Vec<ElabError>,
+    place: Place,
     name: &str,
     key: &Type,
     value: &Type,
 ) -> Result<DescriptorProto, AllocError>
-    ensures { let env = seen_from C.customs at.now in
+    ensures value { let env = seen_from C.customs at.now in
         IfOk result (λ m. described.message_view m
         ≡ messages.entry_of env name.now (type_syntax key.now) (type_syntax value.now)) }
+    ensures faults { let env = seen_from C.customs at.now in
+        let map = map_of (type_syntax key.now) (type_syntax value.now) in
+        Tells result faults.old faults.new (placed place (fields.type_faults env name.now map)) }
 {
-    let key = inner_type(at, name, key)?;
-    let value = inner_type(at, name, value)?;
+    let key = inner_type(at, faults, place, name, key)?;
+    let value = inner_type(at, faults, place, name, value)?;
     entry_message(at.alloc, name, key, value)
 }
 

@@ -1,15 +1,16 @@
 //! Several fields: those of a oneof, and those of an `extend`.
 
 ghost use Rattle.std.specs.Prelude.{◌≡◌, ◌++◌, map, flat_map, IfOk, OnOk};
-ghost use Rattle.protobuf_parse_syntax.specs.Trees.{field_statement_syntax, oneof_statement_syntax};
-ghost use Rattle.protobuf_parse_syntax.specs.Trees.{oneof_syntax};
+ghost use Rattle.protobuf_parse_syntax.specs.Trees.{field_statement_syntax, oneof_syntax};
+ghost use Rattle.protobuf_parse_model.specs.Descriptors as described;
 ghost use Rattle.protobuf_parse_model.specs.Faults.{placed};
 ghost use Rattle.protobuf_parse_model.specs.Statements.{oneof_fields};
-ghost use Rattle.protobuf_parse_elaboration.specs.Parts.{extensions_declared, fields_declared};
-ghost use Rattle.protobuf_parse_elaboration.specs.Parts.{field_owner_view, fields_view};
-ghost use Rattle.protobuf_parse_elaboration.specs.Parts.{statements_seen};
+ghost use Rattle.protobuf_parse_elaboration.specs.Parts.{extensions_declared, field_owner_view};
+ghost use Rattle.protobuf_parse_elaboration.specs.Parts.{fields_view};
 ghost use Rattle.protobuf_parse_elaboration.specs.Fields.{extension_faults, field_statement_faults};
+ghost use Rattle.protobuf_parse_elaboration.specs.Fields.{field_statement_of};
 ghost use Rattle.protobuf_parse_elaboration.specs.Messages.{extendee_faults, extending};
+ghost use Rattle.protobuf_parse_elaboration.specs.Messages.{messages_behind};
 ghost use Rattle.protobuf_parse_elaboration.specs.Viewpoints.{seen_from};
 ghost use Rattle.protobuf_parse_elaboration.specs.Telling.{Tells};
 
@@ -38,61 +39,37 @@ pub fn shrunk<T: Drop>(list: Vec<T>) -> Vec<T>
     shrunk
 }
 
-/// What the statements of a oneof declare, which has that number among the oneofs.
-pub fn fields_of_oneof<C: CustomOptions>(
+/// Adds the fields of a oneof, which has that number among the oneofs, and the messages behind
+/// them.
+pub fn push_fields_of_oneof<C: CustomOptions>(
     at: &Viewpoint<'_, '_, C>,
     faults: &mut Vec<ElabError>,
     owner: &FieldOwner<'_>,
     oneof: &OneOf,
-) -> Result<DeclaredFields, AllocError>
-    ensures value { let env = seen_from C.customs at.now in
-        IfOk result (λ d. fields_view d ≡ fields_declared env (field_owner_view owner.now)
-        (flat_map oneof_fields (oneof_syntax oneof.now).body)) }
+    fields: &mut Vec<FieldDescriptorProto>,
+    messages: &mut Vec<DescriptorProto>,
+) -> Result<(), AllocError>
+    ensures fields { let env = seen_from C.customs at.now in
+        let ss = flat_map oneof_fields (oneof_syntax oneof.now).body in
+        OnOk result (map described.field_view fields.new.items
+        ≡ map described.field_view fields.old.items
+        ++ map (field_statement_of env (field_owner_view owner.now)) ss) }
+    ensures messages { let env = seen_from C.customs at.now in
+        let ss = flat_map oneof_fields (oneof_syntax oneof.now).body in
+        OnOk result (map described.message_view messages.new.items
+        ≡ map described.message_view messages.old.items ++ flat_map (messages_behind env) ss) }
     ensures faults { let env = seen_from C.customs at.now in
         Tells result faults.old faults.new
         (flat_map (field_statement_faults env)
         (flat_map oneof_fields (oneof_syntax oneof.now).body)) }
 {
-    let statements = fields_in(at.alloc, &oneof.body)?;
-    declared_fields(at, faults, owner, &statements)
-}
-
-/// The statements of a oneof that declare fields.
-fn fields_in(alloc: Global, body: &[OneOfStatement]) -> Result<Vec<&FieldStatement>, AllocError>
-    ensures { IfOk result
-        (λ v. statements_seen v.items ≡ flat_map oneof_fields
-        (map oneof_statement_syntax body.now)) }
-{
-    let mut fields = Vec::new(alloc);
-    for statement in body {
+    for statement in &oneof.body {
         if let OneOfStatement::Field(field) = statement {
-            fields.push(field)?;
+            let declared = declared_field(at, faults, owner, field)?;
+            declared.push_to(fields, messages)?;
         }
     }
-    Ok(fields)
-}
-
-/// What these statements declare.
-fn declared_fields<C: CustomOptions>(
-    at: &Viewpoint<'_, '_, C>,
-    faults: &mut Vec<ElabError>,
-    owner: &FieldOwner<'_>,
-    statements: &[&FieldStatement],
-) -> Result<DeclaredFields, AllocError>
-    ensures value { let env = seen_from C.customs at.now in
-        IfOk result (λ d. fields_view d
-        ≡ fields_declared env (field_owner_view owner.now) (statements_seen statements.now)) }
-    ensures faults { let env = seen_from C.customs at.now in
-        Tells result faults.old faults.new
-        (flat_map (field_statement_faults env) (statements_seen statements.now)) }
-{
-    let mut fields = Vec::new(at.alloc);
-    let mut behind = Vec::new(at.alloc);
-    for statement in statements {
-        let declared = declared_field(at, faults, owner, statement)?;
-        declared.push_to(&mut fields, &mut behind)?;
-    }
-    Ok(DeclaredFields { fields, behind })
+    Ok(())
 }
 
 /// What an `extend` declares. E2 or E3 where the name of the message that is extended means none,

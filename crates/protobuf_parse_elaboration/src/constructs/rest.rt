@@ -1,7 +1,9 @@
 //! The ranges and the options of messages.
 
-ghost use Rattle.std.specs.Prelude.{◌≡◌, ◌++◌, map, flat_map, option_map, IfOk};
+ghost use Rattle.std.specs.Prelude.{◌≡◌, ◌++◌, map, flat_map, option_map, string_bytes, IfOk};
+ghost use Rattle.std.specs.Prelude.{OnOk};
 ghost use Rattle.protobuf_parse_syntax.specs.Trees.{message_statement_syntax, range_syntax};
+ghost use Rattle.protobuf_parse_syntax.specs.Trees.{reserved_syntax};
 ghost use Rattle.protobuf_parse_model.specs.BuiltinOptions.{message_table};
 ghost use Rattle.protobuf_parse_model.specs.Descriptors as described;
 ghost use Rattle.protobuf_parse_model.specs.Faults.{placed};
@@ -10,17 +12,14 @@ ghost use Rattle.protobuf_parse_model.specs.declared.customs.Construct.TheVarian
 ghost use Rattle.protobuf_parse_model.specs.Options.{message_options_view};
 ghost use Rattle.protobuf_parse_model.specs.OptionMessages as sets;
 ghost use Rattle.protobuf_parse_elaboration.specs.ConstructOptions.{construct_faults};
-ghost use Rattle.protobuf_parse_elaboration.specs.Parts.{reserved_views, reserves_seen, rest_of};
-ghost use Rattle.protobuf_parse_elaboration.specs.Parts.{rest_view};
+ghost use Rattle.protobuf_parse_elaboration.specs.Parts.{reserved_views, rest_of, rest_view};
 ghost use Rattle.protobuf_parse_elaboration.specs.Enums as enums;
 ghost use Rattle.protobuf_parse_elaboration.specs.Messages as messages;
 ghost use Rattle.protobuf_parse_elaboration.specs.Viewpoints.{seen_from};
 ghost use Rattle.protobuf_parse_elaboration.specs.Telling.{Tells};
 
 use crate::constructs::options::{custom_bytes, message_options, options_in};
-use crate::constructs::reserved::{
-    extension_ranges, has_endless, names_reserved, ranges_reserved, reserved_ranges,
-};
+use crate::constructs::reserved::{has_endless, push_clones, push_exclusive, push_extensions};
 use crate::constructs::viewpoint::Viewpoint;
 use protobuf_parse_lexer::Place;
 use protobuf_parse_model::{
@@ -127,23 +126,10 @@ fn extensions(alloc: Global, body: &[MessageStatement]) -> Result<Vec<ExtensionR
         IfOk result (λ v. map described.extension_range_view v.items
         ≡ map messages.exclusive rs) }
 {
-    let ranges = ranges_of_extensions(alloc, body)?;
-    extension_ranges(alloc, &ranges)
-}
-
-/// The ranges as they are written.
-fn ranges_of_extensions(
-    alloc: Global,
-    body: &[MessageStatement],
-) -> Result<Vec<FieldNumberRange>, AllocError>
-    ensures { IfOk result
-        (λ v. map range_syntax v.items
-        ≡ flat_map messages.extension_ranges (map message_statement_syntax body.now)) }
-{
     let mut ranges = Vec::new(alloc);
     for statement in body {
         if let MessageStatement::Extensions(extensions) = statement {
-            ranges.extend_from_slice(&extensions.ranges)?;
+            push_extensions(&mut ranges, &extensions.ranges)?;
         }
     }
     Ok(ranges)
@@ -160,39 +146,34 @@ fn reserved(
           flat_map enums.names_reserved rs,
         )) }
 {
-    let reserves = reserves(alloc, body)?;
-    reserved_by(alloc, &reserves)
-}
-
-/// The ranges and names that these statements reserve.
-fn reserved_by(
-    alloc: Global,
-    reserves: &[&Reserved],
-) -> Result<(Vec<ReservedRange>, Vec<String>), AllocError>
-    ensures { let rs = reserves_seen reserves.now in
-        IfOk result (λ r. reserved_views r ≡ (
-          map messages.exclusive (flat_map enums.ranges_reserved rs),
-          flat_map enums.names_reserved rs,
-        )) }
-{
-    let names = names_reserved(alloc, reserves)?;
-    let ranges = ranges_reserved(alloc, reserves)?;
-    Ok((reserved_ranges(alloc, &ranges)?, names))
-}
-
-/// What a message reserves.
-fn reserves(alloc: Global, body: &[MessageStatement]) -> Result<Vec<&Reserved>, AllocError>
-    ensures { IfOk result
-        (λ v. reserves_seen v.items
-        ≡ flat_map messages.reserves (map message_statement_syntax body.now)) }
-{
-    let mut reserves = Vec::new(alloc);
+    let mut ranges = Vec::new(alloc);
+    let mut names = Vec::new(alloc);
     for statement in body {
         if let MessageStatement::Reserved(statement) = statement {
-            reserves.push(&statement.reserved)?;
+            push_reserved(&mut ranges, &mut names, &statement.reserved)?;
         }
     }
-    Ok(reserves)
+    Ok((ranges, names))
+}
+
+/// Adds what a statement reserves.
+fn push_reserved(
+    ranges: &mut Vec<ReservedRange>,
+    names: &mut Vec<String>,
+    reserved: &Reserved,
+) -> Result<(), AllocError>
+    ensures ranges { let r = reserved_syntax reserved.now in
+        OnOk result (map described.reserved_range_view ranges.new.items
+        ≡ map described.reserved_range_view ranges.old.items
+        ++ map messages.exclusive (enums.ranges_reserved r)) }
+    ensures names { let r = reserved_syntax reserved.now in
+        OnOk result (map string_bytes names.new.items
+        ≡ map string_bytes names.old.items ++ enums.names_reserved r) }
+{
+    match reserved {
+        Reserved::Ranges(more) => push_exclusive(ranges, more),
+        Reserved::Names(more) => push_clones(names, more),
+    }
 }
 
 /// What the options of a message say.

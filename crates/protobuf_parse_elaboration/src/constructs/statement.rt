@@ -11,12 +11,13 @@ ghost use Rattle.protobuf_parse_elaboration.specs.Fields as fields;
 ghost use Rattle.protobuf_parse_elaboration.specs.Viewpoints.{seen_from};
 ghost use Rattle.protobuf_parse_elaboration.specs.Telling.{Tells};
 
-use crate::constructs::field::{field_descriptor, group_field, tell_map};
+use crate::constructs::field::{field_descriptor, field_with, group_field, tell_map};
 use crate::constructs::generated::{boxed, group_message, map_entry};
 use crate::constructs::owner::FieldOwner;
+use crate::constructs::types::map_type;
 use crate::constructs::viewpoint::Viewpoint;
 use protobuf_parse_model::{CustomOptions, DescriptorProto, ElabError, FieldDescriptorProto};
-use protobuf_parse_syntax::{Field, FieldStatement, Group};
+use protobuf_parse_syntax::{Field, FieldStatement, Group, Type};
 use std::alloc::AllocError;
 
 /// The field that a statement declares.
@@ -127,9 +128,44 @@ fn declared_plain<C: CustomOptions>(
     ensures faults { let env = seen_from C.customs at.now in
         Tells result faults.old faults.new (fields.field_faults env (field_syntax field.now)) }
 {
-    let behind = map_entry(at, &field.name, &field.type_)?;
-    let field = field_descriptor(at, faults, owner, field)?;
-    Ok(DeclaredField { field, behind })
+    match &field.type_ {
+        Type::Map(key, value) => declared_map(at, faults, owner, field, key, value),
+        Type::Scalar(_) | Type::Named(_) => {
+            let field = field_descriptor(at, faults, owner, field)?;
+            Ok(DeclaredField {
+                field,
+                behind: None,
+            })
+        }
+    }
+}
+
+/// A map with these types, and the message of its entries.
+#[inline(never)]
+fn declared_map<C: CustomOptions>(
+    at: &Viewpoint<'_, '_, C>,
+    faults: &mut Vec<ElabError>,
+    owner: &FieldOwner<'_>,
+    field: &Field,
+    key: &Type,
+    value: &Type,
+) -> Result<DeclaredField, AllocError>
+    requires { tree.type_syntax field.now.type_
+        ≡ tree.map_of (tree.type_syntax key.now) (tree.type_syntax value.now) }
+    ensures value { let env = seen_from C.customs at.now in
+        IfOk result (λ d. declared_view d ≡ field_declared_by env (field_owner_view owner.now)
+        (tree.field (field_syntax field.now))) }
+    ensures faults { let env = seen_from C.customs at.now in
+        Tells result faults.old faults.new (fields.field_faults env (field_syntax field.now)) }
+{
+    let entry = map_entry(at, faults, field.place, &field.name, key, value)?;
+    let behind = boxed(at.alloc, entry)?;
+    let resolved = map_type(at, &field.name)?;
+    let field = field_with(at, faults, owner, field, resolved)?;
+    Ok(DeclaredField {
+        field,
+        behind: Some(behind),
+    })
 }
 
 /// A field that is no group, and E4 where it is a map: no message stands behind it.

@@ -53,8 +53,8 @@ pub fn resolved_type<C: CustomOptions>(
         Type::Scalar(scalar) => Ok(scalar_type(FieldType::from(*scalar))),
         Type::Named(type_name) => named_type(at, faults, place, type_name),
         Type::Map(key, value) => {
-            tell_inner(at, faults, place, name, key)?;
-            tell_inner(at, faults, place, name, value)?;
+            inner_type(at, faults, place, name, key)?;
+            inner_type(at, faults, place, name, value)?;
             map_type(at, name)
         }
     }
@@ -113,37 +113,35 @@ fn tell_missing(
     tell(alloc, faults, place, kind, name)
 }
 
-/// Tells what is wrong in a key's or a value's type in the map of that name: E2 or E3 where a name
-/// means no type; E4 for a map.
-fn tell_inner<C: CustomOptions>(
+/// The type of a key or a value in the map of that name.
+///
+/// Told at the place: E2 or E3 where a name means no message and no enum; E4 for a map.
+pub fn inner_type<C: CustomOptions>(
     at: &Viewpoint<'_, '_, C>,
     faults: &mut Vec<ElabError>,
     place: Place,
     name: &str,
     type_: &Type,
-) -> Result<(), AllocError>
-    ensures { let env = seen_from C.customs at.now in
+) -> Result<ResolvedType, AllocError>
+    ensures value { let env = seen_from C.customs at.now in
+        IfOk result (λ r. resolved_view r ≡ type_of env name.now (type_syntax type_.now)) }
+    ensures faults { let env = seen_from C.customs at.now in
         Tells result faults.old faults.new
         (placed place (inner_type_faults env name.now (type_syntax type_.now))) }
 {
     match type_ {
-        Type::Scalar(_) => Ok(()),
-        Type::Named(type_name) => {
-            named_type(at, faults, place, type_name)?;
-            Ok(())
+        Type::Scalar(scalar) => Ok(scalar_type(FieldType::from(*scalar))),
+        Type::Named(type_name) => named_type(at, faults, place, type_name),
+        Type::Map(_, _) => {
+            let kind = ElabErrorKind::DanglingTypeName;
+            tell(at.alloc, faults, place, kind, name)?;
+            map_type(at, name)
         }
-        Type::Map(_, _) => tell(
-            at.alloc,
-            faults,
-            place,
-            ElabErrorKind::DanglingTypeName,
-            name,
-        ),
     }
 }
 
 /// The type of the map of that name: the message of its entries.
-fn map_type<C: CustomOptions>(
+pub fn map_type<C: CustomOptions>(
     at: &Viewpoint<'_, '_, C>,
     name: &str,
 ) -> Result<ResolvedType, AllocError>
@@ -158,26 +156,6 @@ fn map_type<C: CustomOptions>(
         kind: FieldType::Message,
         name: Some(full_name(at.alloc, at.context.scope, &entry)?),
     })
-}
-
-/// The type of a key or a value in the map of that name, of which what is wrong is told at the
-/// field.
-pub fn inner_type<C: CustomOptions>(
-    at: &Viewpoint<'_, '_, C>,
-    name: &str,
-    type_: &Type,
-) -> Result<ResolvedType, AllocError>
-    ensures { let env = seen_from C.customs at.now in
-        IfOk result (λ r. resolved_view r ≡ type_of env name.now (type_syntax type_.now)) }
-{
-    match type_ {
-        Type::Scalar(scalar) => Ok(scalar_type(FieldType::from(*scalar))),
-        Type::Named(type_name) => match type_named(at.alloc, &at.context, type_name)? {
-            Some(meaning) => Ok(declared_type(meaning)),
-            None => Ok(scalar_type(FieldType::Message)),
-        },
-        Type::Map(_, _) => map_type(at, name),
-    }
 }
 
 /// The full name of the type that a name means, if it means one. E2 or E3 at the place where it

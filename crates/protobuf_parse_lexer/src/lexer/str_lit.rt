@@ -1,7 +1,7 @@
 //! What strings say.
 
-ghost use Rattle.std.specs.Prelude.{◌≡◌, ◌<◌, ◌≤◌, ℕ, [], ◌∷◌, ◌++◌, true, length, map, MatchOption};
-ghost use Rattle.std.specs.Prelude.{OnOk, IfOk, IfErr, string_bytes};
+ghost use Rattle.std.specs.Prelude.{◌≡◌, ◌<◌, ◌≤◌, ℕ, [], ◌∷◌, ◌++◌, true, length, map};
+ghost use Rattle.std.specs.Prelude.{MatchOption, OnOk, IfOk, IfErr, string_bytes};
 ghost use Rattle.std.specs.List.{list_all};
 ghost use Rattle.protobuf_parse_lexer.specs.Scan.{is_no_backslash};
 ghost use Rattle.protobuf_parse_lexer.specs.Text.{is_in};
@@ -216,7 +216,8 @@ fn has_no_backslash(piece: &[u8]) -> bool
     piece.iter().all(|byte| *byte != b'\\')
 }
 
-/// Whether no escape begins in a piece, as in most: a string of it alone stands for what is written.
+/// Whether no escape begins in a piece, as in most: a string of it alone stands for what is
+/// written.
 #[tactic(auto, using(crate::proofs::Escapes::plain_alone))]
 pub fn stands_for_itself(piece: &str) -> bool
     ensures { result ≡ true → StandsFor (piece.now ∷ []) piece.now }

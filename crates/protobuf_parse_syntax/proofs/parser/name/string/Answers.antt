@@ -21,7 +21,8 @@ returns-in_err-piece c =
 pub others-preserved : goal.others-preserved
 others-preserved c =
     let before = map string_bytes c.others.pieces.items in
-    let e : map string_bytes c.push-in-others.new.self.items ≡ before ++ c.in_ok-piece.piece.now ∷ [] =
+    let e : map string_bytes c.push-in-others.new.self.items
+    ≡ before ++ c.in_ok-piece.piece.now ∷ [] =
     ap (map string_bytes) c.in_ok-push-2.ensures.items
     ∙ map_push string_bytes c.others.pieces.items c.in_ok-from_str-2.field-0
     ∙ ap (λ (z : Bytes). before ++ z ∷ []) c.in_ok-from_str-2.ensures.ok in
