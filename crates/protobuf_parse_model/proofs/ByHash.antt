@@ -1,8 +1,8 @@
 -- Full names by their hashes.
 use Rattle.std.proofs.Common.{◌≡◌, ℕ, List, [], ◌∷◌, ◌++◌, Bool, true, false, cond, ap, sym, refl}
 use Rattle.std.proofs.Common.{◌∙◌, if◌then◌else◌, Option, Some, None, bytes_eq, nat_eq, append-nil}
-use Rattle.std.proofs.Common.{◌<◌, ◌≤◌, ◌-◌, arith, get_or, length, subst}
-use Rattle.std.specs.Prelude.{String, string_bytes, IsSome}
+use Rattle.std.proofs.Common.{◌<◌, ◌≤◌, ◌-◌, zero, suc, arith, get_or, length, subst, slice_set}
+use Rattle.std.specs.Prelude.{String, string_bytes, slice_get, IsSome}
 use Rattle.std.specs.Cmp.Lexicographic.{slice_cmp}
 use Rattle.std.specs.Global.{Global, Vec}
 use Rattle.std.specs.BTreeMap.{BTreeMap, Updates, get, is_at}
@@ -11,14 +11,16 @@ use Rattle.std.specs.Ordering.{nat_cmp, is_eq}
 use Rattle.std.proofs.lemmas.Bool.{false≢true}
 use Rattle.std.proofs.lemmas.Bool.Decides.{Decides-eqb}
 use Rattle.std.proofs.lemmas.Map.Text.{btree_map_updates_text}
+use Rattle.std.proofs.lemmas.Option.{slice_get_within}
 use Rattle.std.proofs.lemmas.Slice.Eq.{bytes_eq-Decides}
 use Rattle.std.specs.String.{string_cmp}
 use Rattle.protobuf_parse_model.specs.declared.scope.seen.Declaration.{Declaration}
 use Rattle.protobuf_parse_model.specs.declared.scope.seen.DeclaredName.{DeclaredName}
 use Rattle.protobuf_parse_model.specs.declared.scope.seen.OneHash.{OneHash}
 use Rattle.protobuf_parse_model.specs.declared.scope.seen.OneHash.TheVariants.{Name, Names}
-use Rattle.protobuf_parse_model.specs.ByHash.{AddsByHash, IsWith, declarations_in}
-use Rattle.protobuf_parse_model.specs.ByHash.{declared_by_hash, declared_of, hash_of}
+use Rattle.protobuf_parse_model.specs.ByHash.{AddsByHash, AddsInMap, IsWith, declarations_in}
+use Rattle.protobuf_parse_model.specs.ByHash.{declared_by_hash, declared_in_map, declared_of}
+use Rattle.protobuf_parse_model.specs.ByHash.{hash_of, map_of, names_in, names_of_hash}
 use Rattle.protobuf_parse_model.specs.declared.scope.seen.Declarations.{Declarations}
 use Rattle.protobuf_parse_model.specs.Descriptors.{Text}
 use Rattle.protobuf_parse_model.specs.FileOrder.{FilesAscend, listed}
@@ -39,30 +41,30 @@ module _ (old new : BTreeMap ℕ OneHash) (full : Text) (d : Declaration) (names
   at : (text : Text) (b e : Bool) → nat_eq (hash_of full) (hash_of text) ≡ b
       → bytes_eq full text ≡ e
       → declared_of (cond b (Some names) (get nat_cmp old (hash_of text))) text
-      ≡ declared_by_hash old text ++ one_more full d text
+      ≡ declared_in_map old text ++ one_more full d text
   at text true e same is = more text
       ∙ ap (λ h. declared_of (get nat_cmp old h) text ++ one_more full d text)
       ((Decides-eqb (hash_of full) (hash_of text)).0 same)
-  at text false false apart is = sym (append-nil (declared_by_hash old text))
-      ∙ ap (λ b. declared_by_hash old text ++ (if b then d ∷ [] else [])) (sym is)
+  at text false false apart is = sym (append-nil (declared_in_map old text))
+      ∙ ap (λ b. declared_in_map old text ++ (if b then d ∷ [] else [])) (sym is)
   at text false true apart is = absurd (false≢true (sym apart
       ∙ (Decides-eqb (hash_of full) (hash_of text)).1
       (ap hash_of ((bytes_eq-Decides full text).0 is))))
 
-  adds_by_hash : AddsByHash old new full d
-  adds_by_hash text =
+  adds_in_map : AddsInMap old new full d
+  adds_in_map text =
       ap (λ o. declared_of o text) (updates (hash_of text)
       ∙ ap (λ b. cond b (Some names) (get nat_cmp old (hash_of text)))
       (same_number (hash_of full) (hash_of text)))
       ∙ at text (nat_eq (hash_of full) (hash_of text)) (bytes_eq full text) refl refl
 
 -- The declarations are still in the order of the files, whether the name was put first or not.
-pub stays_ordered : (old : Declarations) (new : BTreeMap ℕ OneHash) (full : Text) (d : Declaration)
-    (taken : Option (String Global))
-    → (taken ≡ None → declared_by_hash old.by_hash full ≡ [])
-    → (taken ≡ None → AddsByHash old.by_hash new full d)
+pub stays_ordered : (old : Declarations) (new : List (BTreeMap ℕ OneHash)) (full : Text)
+    (d : Declaration) (taken : Option (String Global))
+    → (taken ≡ None → declared_by_hash old.by_hash.items full ≡ [])
+    → (taken ≡ None → AddsByHash old.by_hash.items new full d)
     → (IsSome taken
-    → (text : Text) → declared_by_hash new text ≡ declared_by_hash old.by_hash text)
+    → (text : Text) → declared_by_hash new text ≡ declared_by_hash old.by_hash.items text)
     → old.in_order ≡ true → (text : Text) → FilesAscend (declared_by_hash new text)
 stays_ordered old new full d None none adds same e text =
     subst FilesAscend (sym (adds refl text))
@@ -81,9 +83,9 @@ stays_ordered old new full d (Some n) none adds same e text =
 pub adds_alike : (old between new : BTreeMap ℕ OneHash) (full : Text) (d : Declaration) (hash : ℕ)
     (after : OneHash) → hash ≡ hash_of full → IsWith (get nat_cmp old hash) full d after
     → Updates nat_cmp old between hash None → Updates nat_cmp between new hash (Some after)
-    → AddsByHash old new full d
+    → AddsInMap old new full d
 adds_alike old between new full d hash after is more removes inserts =
-    adds_by_hash old new full d after
+    adds_in_map old new full d after
     (λ q. inserts.0 q
     ∙ ap (λ o. cond (is_eq (nat_cmp hash q)) (Some after) o) (removes.0 q)
     ∙ twice q (is_eq (nat_cmp hash q))
@@ -111,3 +113,74 @@ only_listed only none names list empty updates is text =
         ≡ (if b then declarations_in only.declared else [])
     at true = is
     at false = refl
+
+-- ---- one of the maps in place of another
+
+set_here : {X : Type 0} (xs : List X) (i : ℕ) (y : X) → i < length xs
+    → slice_get (slice_set xs i y) i ≡ Some y
+set_here [] i y within = absurd (omega (arith, within))
+set_here (x ∷ xs) zero y within = refl
+set_here (x ∷ xs) (suc i) y within = set_here xs i y (omega (arith, within))
+
+set_elsewhere : {X : Type 0} (xs : List X) (i j : ℕ) (y : X) → (j ≡ i → ⊥)
+    → slice_get (slice_set xs i y) j ≡ slice_get xs j
+set_elsewhere [] i j y other = refl
+set_elsewhere (x ∷ xs) zero zero y other = absurd (other refl)
+set_elsewhere (x ∷ xs) zero (suc j) y other = refl
+set_elsewhere (x ∷ xs) (suc i) zero y other = refl
+set_elsewhere (x ∷ xs) (suc i) (suc j) y other = set_elsewhere xs i j y (λ e. other (ap suc e))
+
+module _ (start maps : List (BTreeMap ℕ OneHash)) (before after : BTreeMap ℕ OneHash) (full : Text)
+    (i : ℕ) (same : (hash : ℕ) → names_of_hash maps hash ≡ names_of_hash start hash)
+    (is : i ≡ map_of (hash_of full)) (there : slice_get maps i ≡ Some before) where
+  abbrev changed : List (BTreeMap ℕ OneHash)
+  changed = slice_set maps i after
+
+  -- the declarations of a name, by whether its hash is of that map
+  in_changed : (text : Text) (b : Bool) → nat_eq (map_of (hash_of text)) i ≡ b
+      → declared_by_hash changed text
+      ≡ cond b (declared_in_map after text) (declared_by_hash start text)
+  in_changed text true here =
+      let at = (Decides-eqb (map_of (hash_of text)) i).0 here in
+      ap (λ k. declared_of (names_in (slice_get changed k) (hash_of text)) text) at
+      ∙ ap (λ m. declared_of (names_in m (hash_of text)) text)
+      (set_here maps i after (slice_get_within maps i before there))
+  in_changed text false elsewhere =
+      ap (λ m. declared_of (names_in m (hash_of text)) text)
+      (set_elsewhere maps i (map_of (hash_of text)) after
+      (λ e. false≢true (sym elsewhere ∙ (Decides-eqb (map_of (hash_of text)) i).1 e)))
+      ∙ ap (λ o. declared_of o text) (same (hash_of text))
+
+  in_start : (text : Text) → nat_eq (map_of (hash_of text)) i ≡ true
+      → declared_in_map before text ≡ declared_by_hash start text
+  in_start text here =
+      let at = (Decides-eqb (map_of (hash_of text)) i).0 here in
+      ap (λ m. declared_of (names_in m (hash_of text)) text) (sym there)
+      ∙ ap (λ k. declared_of (names_in (slice_get maps k) (hash_of text)) text) (sym at)
+      ∙ ap (λ o. declared_of o text) (same (hash_of text))
+
+  -- what is the same in both maps is the same in all
+  pub keeps_all : ((text : Text) → declared_in_map after text ≡ declared_in_map before text)
+      → (text : Text) → declared_by_hash changed text ≡ declared_by_hash start text
+  keeps_all keeps text = go (nat_eq (map_of (hash_of text)) i) refl
+    where
+      go : (b : Bool) → nat_eq (map_of (hash_of text)) i ≡ b
+          → declared_by_hash changed text ≡ declared_by_hash start text
+      go true here = in_changed text true here ∙ keeps text ∙ in_start text here
+      go false elsewhere = in_changed text false elsewhere
+
+  -- what was added in the one was added in all
+  pub adds_in_all : (d : Declaration) → AddsInMap before after full d
+      → AddsByHash start changed full d
+  adds_in_all d adds text = go (nat_eq (map_of (hash_of text)) i) (bytes_eq full text) refl refl
+    where
+      go : (b e : Bool) → nat_eq (map_of (hash_of text)) i ≡ b → bytes_eq full text ≡ e
+          → declared_by_hash changed text ≡ declared_by_hash start text ++ one_more full d text
+      go true e here eq = in_changed text true here ∙ adds text
+          ∙ ap (λ ds. ds ++ one_more full d text) (in_start text here)
+      go false false elsewhere eq = in_changed text false elsewhere
+          ∙ sym (append-nil (declared_by_hash start text))
+          ∙ ap (λ b. declared_by_hash start text ++ (if b then d ∷ [] else [])) (sym eq)
+      go false true elsewhere eq = absurd (false≢true (sym elsewhere
+          ∙ (Decides-eqb (map_of (hash_of text)) i).1
+          (ap (λ t. map_of (hash_of t)) (sym ((bytes_eq-Decides full text).0 eq)) ∙ sym is)))

@@ -1,6 +1,6 @@
 -- What full names are declared as, by their hashes.
 use Rattle.std.specs.Prelude.{◌≡◌, ℕ, List, [], ◌∷◌, ◌++◌, Option, None, Some, if◌then◌else◌}
-use Rattle.std.specs.Prelude.{bytes_eq, string_bytes}
+use Rattle.std.specs.Prelude.{◌/◌, bytes_eq, slice_get, string_bytes}
 use Rattle.std.specs.BTreeMap.{BTreeMap, get, get_by_text}
 use Rattle.std.specs.Hash.FoldHasher.{initial, write, finish}
 use Rattle.std.specs.Ordering.{nat_cmp}
@@ -27,12 +27,34 @@ declared_of (Some (Name n)) name =
     if bytes_eq (string_bytes n.name) name then declarations_in n.declared else []
 declared_of (Some (Names names)) name = listed (get_by_text names name)
 
--- the declarations of the full name
-abbrev pub declared_by_hash : BTreeMap ℕ OneHash → List ℕ → List Declaration
-declared_by_hash by_hash name = declared_of (get nat_cmp by_hash (hash_of name)) name
+-- the declarations of the full name in one map
+abbrev pub declared_in_map : BTreeMap ℕ OneHash → List ℕ → List Declaration
+declared_in_map by_hash name = declared_of (get nat_cmp by_hash (hash_of name)) name
 
--- the declaration was added at the end of those of the full name
-abbrev pub AddsByHash : (old new : BTreeMap ℕ OneHash) → List ℕ → Declaration → Type 0
+-- which of the maps has a hash: by its highest byte
+abbrev pub map_of : ℕ → ℕ
+map_of hash = hash / 72057594037927936
+
+-- the names of a hash in a map that may be there
+abbrev pub names_in : Option (BTreeMap ℕ OneHash) → ℕ → Option OneHash
+names_in None hash = None
+names_in (Some by_hash) hash = get nat_cmp by_hash hash
+
+-- the names of the hash
+abbrev pub names_of_hash : List (BTreeMap ℕ OneHash) → ℕ → Option OneHash
+names_of_hash maps hash = names_in (slice_get maps (map_of hash)) hash
+
+-- the declarations of the full name
+abbrev pub declared_by_hash : List (BTreeMap ℕ OneHash) → List ℕ → List Declaration
+declared_by_hash maps name = declared_of (names_of_hash maps (hash_of name)) name
+
+-- the declaration was added at the end of those of the full name in a map
+abbrev pub AddsInMap : (old new : BTreeMap ℕ OneHash) → List ℕ → Declaration → Type 0
+AddsInMap old new full d = (name : List ℕ) → declared_in_map new name
+    ≡ declared_in_map old name ++ (if bytes_eq full name then d ∷ [] else [])
+
+-- and in all of them
+abbrev pub AddsByHash : (old new : List (BTreeMap ℕ OneHash)) → List ℕ → Declaration → Type 0
 AddsByHash old new full d = (name : List ℕ) → declared_by_hash new name
     ≡ declared_by_hash old name ++ (if bytes_eq full name then d ∷ [] else [])
 

@@ -49,7 +49,7 @@ first_kind (d ∷ ds) = option_or (type_kind d.kind) (first_kind ds)
 
 -- the declarations of the full name
 abbrev pub declared_as : Declarations → Text → List Declaration
-declared_as ds name = declared_by_hash ds.by_hash name
+declared_as ds name = declared_by_hash ds.by_hash.items name
 
 abbrev pub declared_type : Text → TypeKind → DeclaredType
 declared_type name k = record { name = name; what = kind_view k }

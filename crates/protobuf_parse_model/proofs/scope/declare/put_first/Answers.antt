@@ -5,7 +5,7 @@ use Rattle.protobuf_parse_model.proofs.scope.declare.put_first.Goals as goal
 
 pub invariant_of-table-2 : goal.invariant_of-table-2
 invariant_of-table-2 c = record {
-  ordered = stays_ordered c.args.table.now c.insert_first.new.by_hash (string_bytes c.args.name)
+  ordered = stays_ordered c.args.table.now c.insert_first.new.maps.items (string_bytes c.args.name)
       c.args.declaration c.in_ok-taken.taken c.in_ok-taken.ensures.first
       c.in_ok-taken.ensures.adds c.in_ok-taken.ensures.same;
 }
