@@ -19,9 +19,8 @@ use std::rt::Files;
 /// The most room that is asked for a file at first: the most bytes that a text may have.
 const MOST_ROOM: u64 = 2147483647;
 
-/// How many bytes of a file are read at once. They are cleared before each reading: from 2048 bytes
-/// on the C library does that by an instruction for a byte, below by one for 32; 5 % of real files.
-const CHUNK_LEN: usize = 2000;
+/// How many bytes of a file are read at once. No more is cleared for a file than so many.
+const CHUNK_LEN: usize = 2048;
 
 /// Finds files in real folders: it looks in each include in turn. Its text lists the includes as
 /// they were given: `["a", "b"]`.
