@@ -21,7 +21,7 @@ use crate::constructs::viewpoint::Viewpoint;
 use protobuf_parse_lexer::Place;
 use protobuf_parse_model::{CustomOptions, DescriptorProto, ElabError, FieldDescriptorProto};
 use protobuf_parse_syntax::{FieldStatement, OneOf, OneOfStatement};
-use std::alloc::{AllocError, Global};
+use std::alloc::AllocError;
 
 /// Fields, and the messages behind maps and groups among them, each in source order.
 #[derive(Drop)]

@@ -3,7 +3,6 @@ use Rattle.std.proofs.lemmas.List.{map-append}
 use Rattle.protobuf_parse_syntax.specs.Trees.{oneof_syntax}
 use Rattle.protobuf_parse_model.specs.SeenFiles.{environment_in}
 use Rattle.protobuf_parse_model.specs.Descriptors.{oneof_view}
-use Rattle.protobuf_parse_model.specs.Statements.{oneof_fields}
 use Rattle.protobuf_parse_elaboration.proofs.Bodies.{with_oneof}
 use Rattle.protobuf_parse_elaboration.proofs.constructs.body.add_oneof.Goals as goal
 
