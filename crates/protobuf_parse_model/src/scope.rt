@@ -26,8 +26,8 @@ mod ordered;
 mod seen;
 
 use crate::descriptor::FieldType;
-use by_hash::{declared_of, names_of_hash};
 pub use by_hash::hash_of;
+use by_hash::{declared_of, names_of_hash};
 pub use declare::{file_scope, scope_of_package};
 pub use ordered::in_file;
 use protobuf_parse_syntax::Syntax;

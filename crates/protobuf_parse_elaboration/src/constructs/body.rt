@@ -17,9 +17,7 @@ ghost use Rattle.protobuf_parse_elaboration.specs.Telling.{Tells};
 
 use crate::constructs::enumeration::enum_descriptor;
 use crate::constructs::field::{field_descriptor, is_map};
-use crate::constructs::lists::{
-    append_declared, fields_of_extend, push_fields_of_oneof, shrunk,
-};
+use crate::constructs::lists::{append_declared, fields_of_extend, push_fields_of_oneof, shrunk};
 use crate::constructs::oneof::{has_own_oneof, oneof_descriptor, own_oneof};
 use crate::constructs::owner::FieldOwner;
 use crate::constructs::rest::Rest;
