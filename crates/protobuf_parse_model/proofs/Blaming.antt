@@ -1,6 +1,6 @@
 -- What tells a fault of a part tells one of the whole.
 use Rattle.std.proofs.Common.{◌≡◌, ℕ, zero, suc, ◌<◌, List, [], ◌∷◌, ◌++◌, map, flat_map, length}
-use Rattle.std.proofs.Common.{Bool, true, cond, arith, ap, ◌∙◌, ◌+◌, take, get_or}
+use Rattle.std.proofs.Common.{arith, ap, ◌∙◌, ◌+◌, take, get_or}
 use Rattle.std.proofs.lemmas.Grind.{flat_map-append}
 use Rattle.std.proofs.lemmas.List.{take_more}
 use Rattle.std.specs.Prelude.{slice_index_or}
@@ -18,11 +18,6 @@ among_left ys (there h) = there (among_left ys h)
 pub among_right : {A : Type 0} {x : A} (xs : List A) {ys : List A} → Among ys x → Among (xs ++ ys) x
 among_right [] h = h
 among_right (y ∷ xs) h = there (among_right xs h)
-
--- the first of a list stands in it
-pub among_when : {A : Type 0} (b : Bool) (x y : A) (ys : List A) → b ≡ true → x ≡ y
-    → Among (cond b (x ∷ []) [] ++ ys) y
-among_when b x y ys e h = rw (e, h) here
 
 pub blames_left : (e : ElabFailure) (xs ys : List Fault) → Blames e xs → Blames e (xs ++ ys)
 blames_left failure.Memory xs ys h = tt

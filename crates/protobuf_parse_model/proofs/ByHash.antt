@@ -18,12 +18,15 @@ use Rattle.protobuf_parse_model.specs.declared.scope.seen.Declaration.{Declarati
 use Rattle.protobuf_parse_model.specs.declared.scope.seen.DeclaredName.{DeclaredName}
 use Rattle.protobuf_parse_model.specs.declared.scope.seen.OneHash.{OneHash}
 use Rattle.protobuf_parse_model.specs.declared.scope.seen.OneHash.TheVariants.{Name, Names}
-use Rattle.protobuf_parse_model.specs.ByHash.{AddsByHash, AddsInMap, IsWith, declarations_in}
-use Rattle.protobuf_parse_model.specs.ByHash.{declared_by_hash, declared_in_map, declared_of}
+use Rattle.protobuf_parse_model.specs.ByHash.{declarations_in}
+use Rattle.protobuf_parse_model.specs.AddsByHash.{AddsByHash, AddsInMap, IsWith}
+use Rattle.protobuf_parse_model.specs.ByHash.{declared_by_hash, declared_of}
+use Rattle.protobuf_parse_model.specs.AddsByHash.{declared_in_map}
 use Rattle.protobuf_parse_model.specs.ByHash.{hash_of, map_of, names_in, names_of_hash}
 use Rattle.protobuf_parse_model.specs.declared.scope.seen.Declarations.{Declarations}
 use Rattle.protobuf_parse_model.specs.Descriptors.{Text}
-use Rattle.protobuf_parse_model.specs.FileOrder.{FilesAscend, listed}
+use Rattle.protobuf_parse_model.specs.FileOrder.{FilesAscend}
+use Rattle.protobuf_parse_model.specs.ByHash.{listed}
 use Rattle.protobuf_parse_model.specs.SeenFiles.{declared_as}
 use Rattle.protobuf_parse_model.proofs.FileOrder.{ascend_more}
 use Rattle.protobuf_parse_model.proofs.Tables.{same_number}

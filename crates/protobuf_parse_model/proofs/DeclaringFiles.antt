@@ -9,7 +9,8 @@ use Rattle.protobuf_parse_model.specs.declared.scope.seen.Declarations.{Declarat
 use Rattle.protobuf_parse_model.specs.Descriptors.{Text}
 use Rattle.protobuf_parse_model.specs.Linking.{declares_name, full_names, occurrences}
 use Rattle.protobuf_parse_model.specs.SeenFiles.{declared_as}
-use Rattle.protobuf_parse_model.specs.Tables.{TableTells, times}
+use Rattle.protobuf_parse_model.specs.Tables.{TableTells}
+use Rattle.protobuf_parse_model.specs.TableParts.{times}
 use Rattle.protobuf_parse_model.proofs.Links.{times_over}
 
 -- whether the file with this number declares the name, by the table

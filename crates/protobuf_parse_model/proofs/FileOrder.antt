@@ -20,8 +20,10 @@ use Rattle.std.proofs.lemmas.Slice.Eq.{bytes_eq-Decides}
 use Rattle.protobuf_parse_model.specs.declared.scope.seen.Declaration.{Declaration}
 use Rattle.protobuf_parse_model.specs.Descriptors.{Text}
 use Rattle.protobuf_parse_model.specs.FileOrder.{FilesAscend}
-use Rattle.protobuf_parse_model.specs.SeenFiles.{first_kind, first_type, type_kind}
-use Rattle.protobuf_parse_model.specs.Tables.{is_of, times}
+use Rattle.protobuf_parse_model.specs.SeenFiles.{first_type, type_kind}
+use Rattle.protobuf_parse_model.specs.SeenParts.{first_kind}
+use Rattle.protobuf_parse_model.specs.Tables.{is_of}
+use Rattle.protobuf_parse_model.specs.TableParts.{times}
 
 get_or_other : {A : Type 0} (xs : List A) (k : ℕ) (c d : A) → k < length xs
     → get_or xs k c ≡ get_or xs k d

@@ -5,12 +5,12 @@ pub mod OrTests
 pub mod TreeViews
 pub mod Scopes
 pub mod FileOrder
+pub mod DeclaredAt
+pub mod LastDeclared
 pub mod Tables
 pub mod ByHash
 pub mod Picks
-pub mod Counting
 pub mod Links
 pub mod DeclaringFiles
-pub mod LastDeclared
-pub mod DeclaredLevels
 pub mod Sights
+pub mod Levels

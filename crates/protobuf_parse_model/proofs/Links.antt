@@ -1,12 +1,12 @@
 -- What files declare more than once, by the table of declarations.
 use Rattle.std.proofs.Common.{◌≡◌, ℕ, zero, suc, ◌+◌, ◌<◌, List, [], ◌∷◌, ◌++◌, Bool, true, false}
-use Rattle.std.proofs.Common.{not, ◌&&◌, cond, if◌then◌else◌, refl, sym, ap, ◌∙◌, bytes_eq, map}
+use Rattle.std.proofs.Common.{◌&&◌, cond, if◌then◌else◌, refl, sym, ap, ◌∙◌, bytes_eq, map}
 use Rattle.std.proofs.Common.{filter, flat_map, length, length-append, get_or, subst, arith, nat_eq}
 use Rattle.std.proofs.Common.{Result, Ok, Err, ◌⊎◌, inl, inr, None, Some}
 use Rattle.std.proofs.lemmas.Bool.Decides.{Decides-eqb}
 use Rattle.std.proofs.lemmas.Cmp.{nat_eq_equiv}
 use Rattle.std.proofs.lemmas.Map.Views.{list_any-from_Contains}
-use Rattle.protobuf_parse_model.specs.Tables.{listed_files, reached_faults}
+use Rattle.protobuf_parse_model.specs.TableParts.{listed_files, reached_faults}
 use Rattle.protobuf_parse_model.proofs.Tables.{same_number}
 use Rattle.std.specs.Prelude.{nat_lt, Contains, String}
 use Rattle.std.specs.BTreeMap.{is_at}
@@ -17,7 +17,6 @@ use Rattle.std.specs.Map.{lookup}
 use Rattle.std.specs.Ordering.{nat_cmp}
 use Rattle.std.proofs.lemmas.Bool.{ltb-true}
 use Rattle.std.proofs.lemmas.Slice.Eq.{bytes_eq-Decides}
-use Rattle.std.proofs.lemmas.List.{map-id}
 use Rattle.std.proofs.lemmas.List.Elements.{filter-append, Contains-append_left, Contains-push}
 use Rattle.std.proofs.lemmas.List.Elements.{Contains-append_right}
 use Rattle.std.proofs.lemmas.List.Sums.{length-filter, count_by-le-length}
@@ -28,25 +27,28 @@ use Rattle.protobuf_parse_model.specs.declared.error.ElabErrorKind.TheVariants.{
 use Rattle.protobuf_parse_model.specs.declared.error.ElabFailure.{ElabFailure}
 use Rattle.protobuf_parse_model.specs.declared.error.ElabFailure.TheVariants as failure
 use Rattle.protobuf_parse_model.specs.declared.scope.seen.Declaration.{Declaration}
+use Rattle.protobuf_parse_model.specs.declared.scope.seen.DeclarationKind.{DeclarationKind}
+use Rattle.protobuf_parse_model.specs.declared.scope.seen.DeclarationKind.TheVariants as declaration
 use Rattle.protobuf_parse_model.specs.declared.scope.seen.Declarations.{Declarations}
 use Rattle.protobuf_parse_model.specs.declared.scope.seen.Seen.{Seen}
 use Rattle.protobuf_parse_model.specs.Descriptors.{Text}
-use Rattle.protobuf_parse_model.specs.Declarations.{DeclaredType, a_message, an_enum}
-use Rattle.protobuf_parse_model.specs.Declarations.{file_extensions, file_generated, file_types}
+use Rattle.protobuf_parse_model.specs.Declarations.{DeclaredType, file_generated, file_types}
+use Rattle.protobuf_parse_model.specs.DeclaredAt.{DeclaredAt, file_at}
 use Rattle.protobuf_parse_model.specs.SeenFiles.{declared_as}
 use Rattle.protobuf_parse_model.specs.Faults.{Among, here, there, Elaborates, Fault}
 use Rattle.protobuf_parse_model.specs.Linking.{beginning, declared_twice, full_names}
 use Rattle.protobuf_parse_model.specs.Linking.{link_faults}
 use Rattle.protobuf_parse_model.specs.Linking.{occurrences, repeated}
-use Rattle.protobuf_parse_model.specs.Tables.{Entry, TableTells, declared_by, declared_in}
-use Rattle.protobuf_parse_model.specs.Tables.{declared_in_file, extension_entry, generated_entry}
-use Rattle.protobuf_parse_model.specs.Tables.{is_of, declaration_kind, listed_faults, listed_names}
-use Rattle.protobuf_parse_model.specs.Tables.{name_list}
-use Rattle.protobuf_parse_model.specs.Tables.{name_faults, picked, twice_when}
-use Rattle.protobuf_parse_model.specs.Tables.{times, times_declared, type_entry}
+use Rattle.protobuf_parse_model.specs.Tables.{TableTells, declared_by, declared_in, is_of}
+use Rattle.protobuf_parse_model.specs.Tables.{listed_names, name_list}
+use Rattle.protobuf_parse_model.specs.TableParts.{listed_faults}
+use Rattle.protobuf_parse_model.specs.Tables.{picked}
+use Rattle.protobuf_parse_model.specs.TableParts.{name_faults, twice_when}
+use Rattle.protobuf_parse_model.specs.TableParts.{times, times_declared}
 use Rattle.protobuf_parse_model.proofs.Blaming.{among_left, among_right}
-use Rattle.protobuf_parse_model.proofs.Counting as counting
-use Rattle.protobuf_parse_model.proofs.Counting.{counted-append}
+use Rattle.protobuf_parse_model.proofs.DeclaredAt.{behind_are, behind_of, behind_when}
+use Rattle.protobuf_parse_model.proofs.DeclaredAt.{extension_of, extension_when, extensions_are}
+use Rattle.protobuf_parse_model.proofs.DeclaredAt.{type_of, type_when, types_are}
 use Rattle.protobuf_parse_model.proofs.FileOrder.{contains_number}
 use Rattle.protobuf_parse_model.proofs.Picks.{among, picked_among}
 
@@ -57,34 +59,13 @@ occurrences-append : (name : Text) (xs ys : List Text)
 occurrences-append name xs ys = ap length (filter-append (bytes_eq name) xs ys)
     ∙ length-append (filter (bytes_eq name) xs) (filter (bytes_eq name) ys)
 
-module _ (extension : Bool) (reach : List ℕ) (name : Text) where
-  abbrev counts : Declaration → Bool
-  counts d = is_of extension d.kind && list_any (nat_eq d.file) reach
-
-  times-append : (xs ys : List Declaration)
-      → times extension reach (xs ++ ys) ≡ times extension reach xs + times extension reach ys
-  times-append xs ys = counted-append counts name xs ys
-
-  -- each counts
-  all : {A : Type 0} (entry : A → Entry) (n : ℕ)
-      → ((d : A) → counts (record { file = n; kind = (entry d).what }) ≡ true) → (ds : List A)
-      → times extension reach (declared_by entry name n ds)
-      ≡ occurrences name (map (λ (d : A). (entry d).name) ds)
-  all entry n each ds = counting.all counts name entry n each ds
-
-  -- none counts
-  none : {A : Type 0} (entry : A → Entry) (n : ℕ)
-      → ((d : A) → counts (record { file = n; kind = (entry d).what }) ≡ false) → (ds : List A)
-      → times extension reach (declared_by entry name n ds) ≡ 0
-  none entry n each ds = counting.none counts name entry n each ds
-
-type_is : (extension : Bool) (d : DeclaredType)
-    → is_of extension (type_entry d).what ≡ not extension
-type_is extension d = at d.what
+same_as : (x y : Text) (b : Bool) → bytes_eq x y ≡ b → bytes_eq y x ≡ b
+same_as x y true e = (bytes_eq-Decides y x).1 (sym ((bytes_eq-Decides x y).0 e))
+same_as x y false e = at (bytes_eq y x) refl
   where
-    at : (k : _) → is_of extension (declaration_kind k) ≡ not extension
-    at a_message = refl
-    at an_enum = refl
+    at : (b : Bool) → bytes_eq y x ≡ b → bytes_eq y x ≡ false
+    at false h = h
+    at true h = let both = (bytes_eq-Decides x y).1 (sym ((bytes_eq-Decides y x).0 h)) in absurd cc
 
 and_true_right : (a b : Bool) → (a && b) ≡ true → b ≡ true
 and_true_right true b e = e
@@ -94,71 +75,187 @@ and_false : (b : Bool) → (b && false) ≡ false
 and_false true = refl
 and_false false = refl
 
+module _ (extension : Bool) (reach : List ℕ) (name : Text) where
+  abbrev counts : Declaration → Bool
+  counts d = is_of extension d.kind && list_any (nat_eq d.file) reach
+
+  times-append : (xs ys : List Declaration)
+      → times extension reach (xs ++ ys) ≡ times extension reach xs + times extension reach ys
+  times-append xs ys = ap length (filter-append counts xs ys)
+      ∙ length-append (filter counts xs) (filter counts ys)
+
+  -- the names of those that are of extensions, or else of types
+  abbrev names_of : List DeclaredAt → List Text
+  names_of ds =
+      flat_map (λ (d : DeclaredAt). if is_of extension d.what.kind then d.name ∷ [] else []) ds
+
+  module _ (n : ℕ) where
+    abbrev is_named : DeclaredAt → Bool
+    is_named d = bytes_eq d.name name
+
+    abbrev made : DeclaredAt → Declaration
+    made d = record { file = n; kind = d.what.kind }
+
+    within_reach : list_any (nat_eq n) reach ≡ true → (ds : List DeclaredAt)
+        → times extension reach (declared_by name n ds) ≡ occurrences name (names_of ds)
+    within_reach e [] = refl
+    within_reach e (d ∷ ds) =
+        at (is_of extension d.what.kind) refl (is_named d) refl (within_reach e ds)
+      where
+        more_names : List Text
+        more_names = names_of ds
+
+        stands : (c : Bool) → List Text
+        stands c = (if c then d.name ∷ [] else []) ++ more_names
+
+        at : (c : Bool) → is_of extension d.what.kind ≡ c → (b : Bool) → is_named d ≡ b
+            → times extension reach (declared_by name n ds) ≡ occurrences name more_names
+            → length
+            (filter counts (map made (cond b (d ∷ filter is_named ds) (filter is_named ds))))
+            ≡ occurrences name (stands (is_of extension d.what.kind))
+        at true k true h more =
+            ap (λ z.
+            length (cond (z && list_any (nat_eq n) reach)
+            (made d ∷ filter counts (declared_by name n ds))
+            (filter counts (declared_by name n ds)))) k
+            ∙ ap (λ z.
+            length (cond z (made d ∷ filter counts (declared_by name n ds))
+            (filter counts (declared_by name n ds)))) e
+            ∙ ap suc more
+            ∙ ap (λ z.
+            length (cond z (d.name ∷ filter (bytes_eq name) more_names)
+            (filter (bytes_eq name) more_names))) (sym (same_as d.name name true h))
+            ∙ ap (λ z. occurrences name (stands z)) (sym k)
+        at true k false h more = more
+            ∙ ap (λ z.
+            length (cond z (d.name ∷ filter (bytes_eq name) more_names)
+            (filter (bytes_eq name) more_names))) (sym (same_as d.name name false h))
+            ∙ ap (λ z. occurrences name (stands z)) (sym k)
+        at false k true h more =
+            ap (λ z.
+            length (cond (z && list_any (nat_eq n) reach)
+            (made d ∷ filter counts (declared_by name n ds))
+            (filter counts (declared_by name n ds)))) k
+            ∙ more ∙ ap (λ z. occurrences name (stands z)) (sym k)
+        at false k false h more = more ∙ ap (λ z. occurrences name (stands z)) (sym k)
+
+    beyond_reach : list_any (nat_eq n) reach ≡ false → (ds : List DeclaredAt)
+        → times extension reach (declared_by name n ds) ≡ 0
+    beyond_reach e [] = refl
+    beyond_reach e (d ∷ ds) = at (is_named d) (beyond_reach e ds)
+      where
+        at : (b : Bool) → times extension reach (declared_by name n ds) ≡ 0
+            → length
+            (filter counts (map made (cond b (d ∷ filter is_named ds) (filter is_named ds))))
+            ≡ 0
+        at false more = more
+        at true more =
+            ap (λ z.
+            length (cond z (made d ∷ filter counts (declared_by name n ds))
+            (filter counts (declared_by name n ds))))
+            (ap (λ z. is_of extension d.what.kind && z) e ∙ and_false (is_of extension d.what.kind))
+            ∙ more
+
+-- the names of extensions are those of the file's list
+extensions_named : (ds : List DeclaredAt)
+    → flat_map (λ (d : DeclaredAt). if is_of true d.what.kind then d.name ∷ [] else []) ds
+    ≡ flat_map extension_of ds
+extensions_named [] = refl
+extensions_named (d ∷ ds) =
+    at d.what.kind ∙ ap (λ ns. extension_of d ++ ns) (extensions_named ds)
+  where
+    rest : List Text
+    rest = flat_map (λ (d : DeclaredAt). if is_of true d.what.kind then d.name ∷ [] else []) ds
+
+    at : (k : DeclarationKind)
+        → (if is_of true k then d.name ∷ [] else []) ++ rest ≡ extension_when k d.name ++ rest
+    at declaration.Message = refl
+    at declaration.Enum = refl
+    at declaration.Generated = refl
+    at declaration.Extension = refl
+
+-- and those of types, as often as in the lists of types and of what stands behind maps and groups
+types_named : (name : Text) (ds : List DeclaredAt)
+    → occurrences name
+    (flat_map (λ (d : DeclaredAt). if is_of false d.what.kind then d.name ∷ [] else []) ds)
+    ≡ occurrences name (map (λ (d : DeclaredType). d.name) (flat_map type_of ds))
+    + occurrences name (flat_map behind_of ds)
+types_named name [] = refl
+types_named name (d ∷ ds) = at d.what.kind (types_named name ds)
+  where
+    rest : List Text
+    rest = flat_map (λ (d : DeclaredAt). if is_of false d.what.kind then d.name ∷ [] else []) ds
+
+    types : List DeclaredType
+    types = flat_map type_of ds
+
+    one : (ns : List Text)
+        → occurrences name (d.name ∷ ns) ≡ occurrences name (d.name ∷ []) + occurrences name ns
+    one ns = occurrences-append name (d.name ∷ []) ns
+
+    at : (k : DeclarationKind)
+        → occurrences name rest ≡ occurrences name (map (λ (d : DeclaredType). d.name) types)
+        + occurrences name (flat_map behind_of ds)
+        → occurrences name ((if is_of false k then d.name ∷ [] else []) ++ rest)
+        ≡ occurrences name (map (λ (d : DeclaredType). d.name) (type_when k d.name ++ types))
+        + occurrences name (behind_when k d.name ++ flat_map behind_of ds)
+    at declaration.Message more =
+        let all = one rest in
+        let some = one (map (λ (d : DeclaredType). d.name) types) in
+        omega (arith, all, some, more)
+    at declaration.Enum more =
+        let all = one rest in
+        let some = one (map (λ (d : DeclaredType). d.name) types) in
+        omega (arith, all, some, more)
+    at declaration.Generated more =
+        let all = one rest in
+        let some = one (flat_map behind_of ds) in
+        omega (arith, all, some, more)
+    at declaration.Extension more = more
+
 module _ (reach : List ℕ) (name : Text) (n : ℕ) (t : FileSyntax) where
-  parts : (extension : Bool)
-      → times extension reach (declared_in_file name n t)
-      ≡ times extension reach (declared_by type_entry name n (file_types t)) +
-      (times extension reach (declared_by generated_entry name n (file_generated t)) + times
-      extension reach (declared_by extension_entry name n (file_extensions t)))
-  parts extension =
-      times-append extension reach name (declared_by type_entry name n (file_types t))
-      (declared_by generated_entry name n (file_generated t)
-      ++ declared_by extension_entry name n (file_extensions t))
-      ∙ ap (λ k. times extension reach (declared_by type_entry name n (file_types t)) + k)
-      (times-append extension reach name (declared_by generated_entry name n (file_generated t))
-      (declared_by extension_entry name n (file_extensions t)))
+  named : (extension : Bool)
+      → occurrences name (names_of extension reach name (file_at t))
+      ≡ occurrences name (full_names extension t)
+  named true = ap (occurrences name) (extensions_named (file_at t) ∙ extensions_are t)
+  named false = types_named name (file_at t)
+      ∙ ap (λ ds.
+      occurrences name (map (λ (d : DeclaredType). d.name) ds)
+      + occurrences name (flat_map behind_of (file_at t))) (types_are t)
+      ∙ ap (λ ns.
+      occurrences name (map (λ (d : DeclaredType). d.name) (file_types t)) + occurrences name ns)
+      (behind_are t)
+      ∙ sym (occurrences-append name (map (λ (d : DeclaredType). d.name) (file_types t))
+      (file_generated t))
 
   in_reach : (extension : Bool) → list_any (nat_eq n) reach ≡ true
-      → times extension reach (declared_in_file name n t) ≡ occurrences name (full_names extension t)
-  in_reach false e =
-      let types = all false reach name type_entry n
-      (λ d. ap (λ b. b && list_any (nat_eq n) reach) (type_is false d) ∙ e) (file_types t) in
-      let behind = all false reach name generated_entry n (λ d. e) (file_generated t)
-      ∙ ap (occurrences name) (map-id (file_generated t)) in
-      let others = none false reach name extension_entry n (λ d. refl) (file_extensions t) in
-      let sum = occurrences-append name (map (λ (d : DeclaredType). d.name) (file_types t))
-      (file_generated t) in
-      parts false ∙ omega (arith, types, behind, others, sum)
-  in_reach true e =
-      let types = none true reach name type_entry n
-      (λ d. ap (λ b. b && list_any (nat_eq n) reach) (type_is true d)) (file_types t) in
-      let behind = none true reach name generated_entry n (λ d. refl) (file_generated t) in
-      let others = all true reach name extension_entry n (λ d. e) (file_extensions t) in
-      parts true ∙ omega (arith, types, behind, others)
+      → times extension reach (declared_by name n (file_at t))
+      ≡ occurrences name (full_names extension t)
+  in_reach extension e = within_reach extension reach name n e (file_at t) ∙ named extension
 
   out_of_reach : (extension : Bool) → list_any (nat_eq n) reach ≡ false
-      → times extension reach (declared_in_file name n t) ≡ 0
-  out_of_reach extension e =
-      let types = none extension reach name type_entry n
-      (λ d. ap (λ b. is_of extension (type_entry d).what && b) e
-      ∙ and_false (is_of extension (type_entry d).what)) (file_types t) in
-      let behind = none extension reach name generated_entry n
-      (λ d. ap (λ b. is_of extension (generated_entry d).what && b) e
-      ∙ and_false (is_of extension (generated_entry d).what)) (file_generated t) in
-      let others = none extension reach name extension_entry n
-      (λ d. ap (λ b. is_of extension (extension_entry d).what && b) e
-      ∙ and_false (is_of extension (extension_entry d).what)) (file_extensions t) in
-      parts extension ∙ omega (arith, types, behind, others)
+      → times extension reach (declared_by name n (file_at t)) ≡ 0
+  out_of_reach extension e = beyond_reach extension reach name n e (file_at t)
 
 counted : (extension : Bool) (reach : List ℕ) (name : Text) (n : ℕ) (ts : List FileSyntax)
     → times extension reach (declared_in name n ts)
     ≡ occurrences name (flat_map (full_names extension) (among reach n ts))
 counted extension reach name n [] = refl
 counted extension reach name n (t ∷ ts) =
-    times-append extension reach name (declared_in_file name n t) (declared_in name (suc n) ts)
+    times-append extension reach name (declared_by name n (file_at t)) (declared_in name (suc n) ts)
     ∙ at (list_any (nat_eq n) reach) refl (counted extension reach name (suc n) ts)
   where
     at : (b : Bool) → list_any (nat_eq n) reach ≡ b
         → times extension reach (declared_in name (suc n) ts)
         ≡ occurrences name (flat_map (full_names extension) (among reach (suc n) ts))
-        → times extension reach (declared_in_file name n t) + times extension reach
+        → times extension reach (declared_by name n (file_at t)) + times extension reach
         (declared_in name (suc n) ts)
         ≡ occurrences name (flat_map (full_names extension) (among reach n (t ∷ ts)))
     at true e more =
         let here_is = in_reach reach name n t extension e in
         let sum = occurrences-append name (full_names extension t)
         (flat_map (full_names extension) (among reach (suc n) ts)) in
-        let added : times extension reach (declared_in_file name n t) + times extension reach
+        let added : times extension reach (declared_by name n (file_at t)) + times extension reach
         (declared_in name (suc n) ts)
         ≡ occurrences name
         (full_names extension t ++ flat_map (full_names extension) (among reach (suc n) ts)) =
@@ -169,7 +266,7 @@ counted extension reach name n (t ∷ ts) =
         ((if b then t ∷ [] else []) ++ among reach (suc n) ts))) (sym e)
     at false e more =
         let here_is = out_of_reach reach name n t extension e in
-        let added : times extension reach (declared_in_file name n t) + times extension reach
+        let added : times extension reach (declared_by name n (file_at t)) + times extension reach
         (declared_in name (suc n) ts)
         ≡ occurrences name (flat_map (full_names extension) (among reach (suc n) ts)) =
         omega (arith, here_is, more) in

@@ -1,8 +1,8 @@
 -- The table of declarations, step by step.
 use Rattle.std.proofs.Common.{◌≡◌, ℕ, zero, suc, List, [], ◌∷◌, ◌++◌, Bool, true, false, cond}
 use Rattle.std.proofs.Common.{if◌then◌else◌, Option, Some, None, refl, sym, ap, ◌∙◌, bytes_eq}
-use Rattle.std.proofs.Common.{append-nil, append_assoc, map, filter, flat_map, ◌+◌, ◌<◌, length}
-use Rattle.std.proofs.Common.{length-append, take, get_or, subst, arith, nat_eq}
+use Rattle.std.proofs.Common.{append-nil, append_assoc, map, filter, ◌+◌, ◌<◌, length}
+use Rattle.std.proofs.Common.{length-append, get_or, subst, arith, nat_eq}
 use Rattle.std.proofs.Common.{inl, inr}
 use Rattle.std.specs.Prelude.{String, string_bytes, unwrap_or, Contains}
 use Rattle.std.specs.Global.{Global, Vec}
@@ -12,39 +12,22 @@ use Rattle.std.specs.String.{string_cmp}
 use Rattle.std.specs.BTreeMap.{BTreeMap, UpdatesBy, get, get_by_text}
 use Rattle.std.proofs.lemmas.Slice.Eq.{bytes_eq-Decides}
 use Rattle.std.proofs.lemmas.Map.Text.{btree_map_updates_text}
-use Rattle.std.proofs.lemmas.Grind.{flat_map-append}
-use Rattle.std.proofs.lemmas.List.{flat_map_more, map-append, map_more}
+use Rattle.std.proofs.lemmas.List.{map-append}
 use Rattle.std.proofs.lemmas.List.Elements.{filter-append, Contains-append_left, Contains-push}
 use Rattle.std.proofs.lemmas.List.Elements.{Contains-get_or, Contains-push_cases}
 use Rattle.std.proofs.lemmas.Bool.Decides.{Decides-eqb}
 use Rattle.std.specs.Cmp.{unsigned_tied}
-use Rattle.protobuf_parse_syntax.proofs.Messages.{view_parts, views_message}
-use Rattle.protobuf_parse_syntax.specs.declared.tree.declaration.Message.{Message}
-use Rattle.protobuf_parse_syntax.specs.declared.tree.declaration.MessageStatement.TheVariants as statement
-use Rattle.protobuf_parse_syntax.specs.declared.tree.field.FieldStatement.{FieldStatement}
-use Rattle.protobuf_parse_base.specs.DeclaredNames.{name_bytes}
-use Rattle.protobuf_parse_syntax.specs.Trees.{ExtendSyntax, FieldStatementSyntax, FileSyntax}
-use Rattle.protobuf_parse_syntax.specs.Trees.{field_statement_syntax, MessageSyntax}
-use Rattle.protobuf_parse_syntax.specs.Trees.{message_statement_syntax, message_syntax}
-use Rattle.protobuf_parse_syntax.specs.Trees.{nested_message}
-use Rattle.protobuf_parse_model.specs.declared.scope.seen.DeclarationKind.TheVariants as kind
+use Rattle.protobuf_parse_syntax.specs.Trees.{FileSyntax}
 use Rattle.protobuf_parse_model.specs.declared.scope.seen.Declaration.{Declaration}
 use Rattle.protobuf_parse_model.specs.declared.scope.seen.Declarations.{Declarations}
 use Rattle.protobuf_parse_model.specs.Descriptors.{Text}
-use Rattle.protobuf_parse_model.specs.Declarations.{DeclaredExtension, Scope, a_message, declare}
-use Rattle.protobuf_parse_model.specs.Declarations.{extend_extensions, extensions_of}
-use Rattle.protobuf_parse_model.specs.Declarations.{file_extensions, file_generated, file_types}
-use Rattle.protobuf_parse_model.specs.Declarations.{full_name, generated_of, inside, types_of}
-use Rattle.protobuf_parse_model.specs.Statements.{field_statement_name}
-use Rattle.protobuf_parse_model.specs.FileOrder.{listed}
+use Rattle.protobuf_parse_model.specs.DeclaredAt.{DeclaredAt, file_at}
+use Rattle.protobuf_parse_model.specs.ByHash.{listed}
 use Rattle.protobuf_parse_model.specs.SeenFiles.{declared_as}
-use Rattle.protobuf_parse_model.specs.Tables.{Adds, AddsOne, Entry, KeepsListed, ListsOne, SaysSame}
+use Rattle.protobuf_parse_model.specs.Tables.{AddsOne, SaysSame}
+use Rattle.protobuf_parse_model.specs.TableParts.{KeepsListed, ListsOne}
 use Rattle.protobuf_parse_model.specs.Tables.{ListsRepeated, TableTells, name_list, names_listed}
-use Rattle.protobuf_parse_model.specs.Tables.{declared_by, declared_in, declared_in_file}
-use Rattle.protobuf_parse_model.specs.Tables.{extension_entry, generated_entry, listed_names}
-use Rattle.protobuf_parse_model.specs.Tables.{type_entry}
-use Rattle.protobuf_parse_model.proofs.DeclaredLevels.{extensions_of_message, generated_of_message}
-use Rattle.protobuf_parse_model.proofs.DeclaredLevels.{types_of_message}
+use Rattle.protobuf_parse_model.specs.Tables.{declared_by, declared_in, listed_names}
 
 -- ---- a declaration more
 
@@ -250,183 +233,70 @@ adds_after_same old between new full d same adds = record {
 
 -- ---- declarations of a file, one after another
 
-module _ {A : Type 0} (entry : A → Entry) where
-  abbrev made : ℕ → A → Declaration
-  made file d = record { file = file; kind = (entry d).what }
+-- what the file declares was added at the end of each name's declarations
+pub record Adds (old new : Declarations) (file : ℕ) (ds : List DeclaredAt) : Type 0 where
+  pub declares : (name : Text)
+      → declared_as new name ≡ declared_as old name ++ declared_by name file ds
+  pub lists : ListsRepeated old → ListsRepeated new
 
-  one_is : (d : A) (file : ℕ) (b : Bool)
-      → (if b then made file d ∷ [] else []) ≡ map (made file) (cond b (d ∷ []) [])
-  one_is d file false = refl
-  one_is d file true = refl
+abbrev made : ℕ → DeclaredAt → Declaration
+made file d = record { file = file; kind = d.what.kind }
 
-  pub adds_single : (old new : Declarations) (full : Text) (file : ℕ) (d : A)
-      → AddsOne old new full (made file d) → full ≡ (entry d).name
-      → Adds entry old new file (d ∷ [])
-  adds_single old new full file d adds is = record {
-    declares = λ text. adds.declares text
-        ∙ ap (λ s. declared_as old text ++ (if bytes_eq s text then made file d ∷ [] else [])) is
-        ∙ ap (λ ds. declared_as old text ++ ds) (one_is d file (bytes_eq (entry d).name text));
-    lists = adds.lists;
-  }
+one_is : (d : DeclaredAt) (file : ℕ) (b : Bool)
+    → (if b then made file d ∷ [] else []) ≡ map (made file) (cond b (d ∷ []) [])
+one_is d file false = refl
+one_is d file true = refl
 
-  declared_by-append : (text : Text) (file : ℕ) (xs ys : List A)
-      → declared_by entry text file (xs ++ ys) ≡ declared_by entry text file xs
-      ++ declared_by entry text file ys
-  declared_by-append text file xs ys =
-      ap (map (made file)) (filter-append (λ (d : A). bytes_eq (entry d).name text) xs ys)
-      ∙ map-append (made file) (filter (λ (d : A). bytes_eq (entry d).name text) xs)
-      (filter (λ (d : A). bytes_eq (entry d).name text) ys)
+declared_by-append : (text : Text) (file : ℕ) (xs ys : List DeclaredAt)
+    → declared_by text file (xs ++ ys) ≡ declared_by text file xs ++ declared_by text file ys
+declared_by-append text file xs ys =
+    ap (map (made file)) (filter-append (λ (d : DeclaredAt). bytes_eq d.name text) xs ys)
+    ∙ map-append (made file) (filter (λ (d : DeclaredAt). bytes_eq d.name text) xs)
+    (filter (λ (d : DeclaredAt). bytes_eq d.name text) ys)
 
-  pub adds_none : (table : Declarations) (file : ℕ) → Adds entry table table file []
-  adds_none table file =
-      record { declares = λ text. sym (append-nil (declared_as table text)); lists = λ h. h }
+pub adds_none : (table : Declarations) (file : ℕ) → Adds table table file []
+adds_none table file =
+    record { declares = λ text. sym (append-nil (declared_as table text)); lists = λ h. h }
 
-  pub adds_more : (old between new : Declarations) (file : ℕ) (xs ys : List A)
-      → Adds entry old between file xs → Adds entry between new file ys
-      → Adds entry old new file (xs ++ ys)
-  adds_more old between new file xs ys before after = record {
-    declares = λ text. after.declares text
-        ∙ ap (λ ds. ds ++ declared_by entry text file ys) (before.declares text)
-        ∙ append_assoc (declared_as old text) (declared_by entry text file xs)
-        (declared_by entry text file ys)
-        ∙ ap (λ ds. declared_as old text ++ ds) (sym (declared_by-append text file xs ys));
-    lists = λ h. after.lists (before.lists h);
-  }
-
-  -- one statement more
-  pub adds_next : {S X : Type 0} (old between new : Declarations) (file : ℕ) (declares : X → List A)
-      (view : S → X) (before : List A) (xs : List S) (i : ℕ) (x : S) → i < length xs
-      → x ≡ get_or xs i x
-      → Adds entry old between file (before ++ flat_map declares (map view (take i xs)))
-      → Adds entry between new file (declares (view x))
-      → Adds entry old new file (before ++ flat_map declares (map view (take (i + 1) xs)))
-  adds_next old between new file declares view before xs i x lt is so_far more =
-      let e = map_more view xs i x lt in
-      let at : map view (take (i + 1) xs) ≡ map view (take i xs) ++ view x ∷ [] = e
-      ∙ ap (λ z. map view (take i xs) ++ view z ∷ []) (sym is) in
-      let all = flat_map_more declares before (map view (take i xs)) (view x)
-      ∙ ap (λ ys. before ++ flat_map declares ys) (sym at) in
-      subst (λ ds. Adds entry old new file ds) all
-      (adds_more old between new file (before ++ flat_map declares (map view (take i xs)))
-      (declares (view x)) so_far more)
-
--- what the statements that declare fields in statements stand for
-pub flat_map-inside : {A B C : Type 0} (f : B → List C) (g : A → List B) (xs : List A)
-    → flat_map (λ (x : A). flat_map f (g x)) xs ≡ flat_map f (flat_map g xs)
-flat_map-inside f g [] = refl
-flat_map-inside f g (x ∷ xs) = ap (λ ys. flat_map f (g x) ++ ys) (flat_map-inside f g xs)
-    ∙ sym (flat_map-append f (g x) (flat_map g xs))
-
--- one extension more
-pub adds_extension : (old between new : Declarations) (file : ℕ) (scope : Scope) (e : ExtendSyntax)
-    (xs : List FieldStatement) (i : ℕ) (x : FieldStatement) → i < length xs → x ≡ get_or xs i x
-    → Adds extension_entry old between file
-    (extend_extensions scope (record e { fields = map field_statement_syntax (take i xs) }))
-    → AddsOne between new (full_name scope (field_statement_name (field_statement_syntax x)))
-    (record { file = file; kind = kind.Extension })
-    → Adds extension_entry old new file
-    (extend_extensions scope (record e { fields = map field_statement_syntax (take (i + 1) xs) }))
-adds_extension old between new file scope e xs i x lt is so_far more =
-    let made = map_more field_statement_syntax xs i x lt in
-    let at : map field_statement_syntax (take (i + 1) xs) ≡ map field_statement_syntax (take i xs)
-    ++ field_statement_syntax x ∷ [] = made
-    ∙ ap (λ z. map field_statement_syntax (take i xs) ++ field_statement_syntax z ∷ []) (sym is) in
-    let all =
-    sym (map-append make (map field_statement_syntax (take i xs)) (field_statement_syntax x ∷ []))
-    ∙ ap (map make) (sym at) in
-    subst (λ (ds : List DeclaredExtension). Adds extension_entry old new file ds) all
-    (adds_more extension_entry old between new file
-    (map make (map field_statement_syntax (take i xs)))
-    (make (field_statement_syntax x) ∷ []) so_far
-    (adds_single extension_entry between new
-    (full_name scope (field_statement_name (field_statement_syntax x))) file
-    (make (field_statement_syntax x)) more refl))
-  where
-    make : FieldStatementSyntax → DeclaredExtension
-    make f = declare scope (field_statement_name f)
-        (record { extendee = e.extendee; scope = scope; field = f })
-
--- ---- messages inside messages
-
-pub types_of-view : (scope : Scope) (m : Message)
-    → types_of scope (message_statement_syntax (statement.Message m))
-    ≡ types_of scope (nested_message (message_syntax m))
-types_of-view scope m = ap (types_of scope) (views_message m)
-
-pub generated_of-view : (scope : Scope) (m : Message)
-    → generated_of scope (message_statement_syntax (statement.Message m))
-    ≡ generated_of scope (nested_message (message_syntax m))
-generated_of-view scope m = ap (generated_of scope) (views_message m)
-
-pub extensions_of-view : (scope : Scope) (m : Message)
-    → extensions_of scope (message_statement_syntax (statement.Message m))
-    ≡ extensions_of scope (nested_message (message_syntax m))
-extensions_of-view scope m = ap (extensions_of scope) (views_message m)
-
-pub types-view : (scope : Scope) (m : Message)
-    → types_of scope (nested_message (message_syntax m))
-    ≡ declare scope (name_bytes m.name) a_message
-    ∷ flat_map (types_of (inside scope (name_bytes m.name)))
-    (map message_statement_syntax m.body.items)
-types-view scope m =
-    types_of_message scope (message_syntax m)
-    ∙ ap (λ (x : MessageSyntax). declare scope x.name a_message
-    ∷ flat_map (types_of (inside scope x.name)) x.body) (view_parts m)
-
-pub generated-view : (scope : Scope) (m : Message)
-    → generated_of scope (nested_message (message_syntax m))
-    ≡ flat_map (generated_of (inside scope (name_bytes m.name)))
-    (map message_statement_syntax m.body.items)
-generated-view scope m =
-    generated_of_message scope (message_syntax m)
-    ∙ ap (λ (x : MessageSyntax). flat_map (generated_of (inside scope x.name)) x.body)
-    (view_parts m)
-
-pub extensions-view : (scope : Scope) (m : Message)
-    → extensions_of scope (nested_message (message_syntax m))
-    ≡ flat_map (extensions_of (inside scope (name_bytes m.name)))
-    (map message_statement_syntax m.body.items)
-extensions-view scope m =
-    extensions_of_message scope (message_syntax m)
-    ∙ ap (λ (x : MessageSyntax). flat_map (extensions_of (inside scope x.name)) x.body)
-    (view_parts m)
+-- one more
+pub adds_next : (old between new : Declarations) (file : ℕ) (ds : List DeclaredAt) (d : DeclaredAt)
+    → Adds old between file ds → AddsOne between new d.name (made file d)
+    → Adds old new file (ds ++ d ∷ [])
+adds_next old between new file ds d so_far one = record {
+  declares = λ text. one.declares text
+      ∙ ap (λ es. es ++ (if bytes_eq d.name text then made file d ∷ [] else []))
+      (so_far.declares text)
+      ∙ append_assoc (declared_as old text) (declared_by text file ds)
+      (if bytes_eq d.name text then made file d ∷ [] else [])
+      ∙ ap (λ es. declared_as old text ++ (declared_by text file ds ++ es))
+      (one_is d file (bytes_eq d.name text))
+      ∙ ap (λ es. declared_as old text ++ es) (sym (declared_by-append text file ds (d ∷ [])));
+  lists = λ h. one.lists (so_far.lists h);
+}
 
 -- ---- files, one after another
 
 declared_in-push : (text : Text) (n file : ℕ) (files : List FileSyntax) (t : FileSyntax)
     → n + length files ≡ file → declared_in text n (files ++ t ∷ []) ≡ declared_in text n files
-    ++ declared_in_file text file t
+    ++ declared_by text file (file_at t)
 declared_in-push text n file [] t at =
     let here : n ≡ file = omega arith in
-    append-nil (declared_in_file text n t) ∙ ap (λ k. declared_in_file text k t) here
+    append-nil (declared_by text n (file_at t)) ∙ ap (λ k. declared_by text k (file_at t)) here
 declared_in-push text n file (f ∷ files) t at =
     let next : suc n + length files ≡ file = omega arith in
-    ap (λ ds. declared_in_file text n f ++ ds) (declared_in-push text (suc n) file files t next)
-    ∙ sym (append_assoc (declared_in_file text n f) (declared_in text (suc n) files)
-    (declared_in_file text file t))
+    ap (λ ds. declared_by text n (file_at f) ++ ds)
+    (declared_in-push text (suc n) file files t next)
+    ∙ sym (append_assoc (declared_by text n (file_at f)) (declared_in text (suc n) files)
+    (declared_by text file (file_at t)))
 
-pub tells_more : (old first second new : Declarations) (files : List FileSyntax) (t : FileSyntax)
-    (file : ℕ)
-    → Adds type_entry old first file (file_types t)
-    → Adds generated_entry first second file (file_generated t)
-    → Adds extension_entry second new file (file_extensions t)
-    → length files ≡ file → TableTells old files → TableTells new (files ++ t ∷ [])
-tells_more old first second new files t file types generated extensions at tells =
-    record { declares = all; lists = extensions.lists (generated.lists (types.lists tells.lists)) }
-  where
-    all : (text : Text) → declared_as new text ≡ declared_in text 0 (files ++ t ∷ [])
-    all text =
-        let number : 0 + length files ≡ file = omega arith in
-        let ts = declared_by type_entry text file (file_types t) in
-        let gs = declared_by generated_entry text file (file_generated t) in
-        let es = declared_by extension_entry text file (file_extensions t) in
-        let after : declared_as new text ≡ ((declared_as old text ++ ts) ++ gs)
-        ++ es = extensions.declares text
-        ∙ ap (λ ds. ds ++ es) (generated.declares text
-        ∙ ap (λ ds. ds ++ gs) (types.declares text)) in
-        let flat : declared_as new text ≡ declared_as old text
-        ++ declared_in_file text file t = after
-        ∙ append_assoc (declared_as old text ++ ts) gs es
-        ∙ append_assoc (declared_as old text) ts (gs ++ es) in
-        flat ∙ ap (λ ds. ds ++ declared_in_file text file t) (tells.declares text)
-        ∙ sym (declared_in-push text 0 file files t number)
+pub tells_more : (old new : Declarations) (files : List FileSyntax) (t : FileSyntax) (file : ℕ)
+    → Adds old new file (file_at t) → length files ≡ file → TableTells old files
+    → TableTells new (files ++ t ∷ [])
+tells_more old new files t file adds at tells =
+    let number : 0 + length files ≡ file = omega arith in
+    record {
+      declares = λ text. adds.declares text
+          ∙ ap (λ ds. ds ++ declared_by text file (file_at t)) (tells.declares text)
+          ∙ sym (declared_in-push text 0 file files t number);
+      lists = adds.lists tells.lists;
+    }

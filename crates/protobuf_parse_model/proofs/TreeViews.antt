@@ -3,6 +3,7 @@ use Rattle.std.proofs.Common.{◌≡◌, ap, sym, ◌∙◌, rules, map, string_
 use Rattle.std.specs.Prelude.{String}
 use Rattle.std.specs.Global.{Global}
 use Rattle.protobuf_parse_syntax.specs.Trees as tree
+use Rattle.protobuf_parse_syntax.specs.InnerViews.{message_statement_syntax}
 use Rattle.protobuf_parse_syntax.specs.Trees.{ConstantSyntax, ConstantFieldSyntax}
 use Rattle.protobuf_parse_syntax.specs.Trees.{MessageStatementSyntax, MessageSyntax}
 use Rattle.protobuf_parse_syntax.specs.declared.tree.constant.ProtobufConstant.{fold-roll-ProtobufConstant}
@@ -20,18 +21,18 @@ use Rattle.protobuf_parse_syntax.specs.declared.tree.declaration.MessageStatemen
 use Rattle.protobuf_parse_syntax.specs.declared.tree.declaration.Extend.{Extend}
 
 pub views_message : (m : Message)
-    → (tree.message_syntax m).body ≡ map tree.message_statement_syntax m.body.items
+    → (tree.message_syntax m).body ≡ map message_statement_syntax m.body.items
 views_message m = search (rules, the_lemmas, fold_out-Message)
 
 pub views_nested : (m : Message)
-    → tree.message_statement_syntax (is_message m) ≡ tree.nested_message (tree.message_syntax m)
-views_nested m = ap tree.message_statement_syntax (sym (rolls-Message m))
+    → message_statement_syntax (is_message m) ≡ tree.nested_message (tree.message_syntax m)
+views_nested m = ap message_statement_syntax (sym (rolls-Message m))
     ∙ fold-roll-MessageStatement MessageStatementSyntax MessageSyntax tree.message_statement_step
     tree.message_step (layer.MessageStatement-F.Message m)
 
 pub views_extend : (e : Extend)
-    → tree.message_statement_syntax (is_extend e) ≡ tree.message_extend (tree.extend_syntax e)
-views_extend e = ap tree.message_statement_syntax (sym (rolls-Extend e))
+    → message_statement_syntax (is_extend e) ≡ tree.message_extend (tree.extend_syntax e)
+views_extend e = ap message_statement_syntax (sym (rolls-Extend e))
     ∙ fold-roll-MessageStatement MessageStatementSyntax MessageSyntax tree.message_statement_step
     tree.message_step (layer.MessageStatement-F.Extend e)
 

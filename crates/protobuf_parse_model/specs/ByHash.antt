@@ -1,6 +1,6 @@
 -- What full names are declared as, by their hashes.
-use Rattle.std.specs.Prelude.{◌≡◌, ℕ, List, [], ◌∷◌, ◌++◌, Option, None, Some, if◌then◌else◌}
-use Rattle.std.specs.Prelude.{◌/◌, bytes_eq, slice_get, string_bytes}
+use Rattle.std.specs.Prelude.{ℕ, List, [], ◌∷◌, Option, None, Some, if◌then◌else◌}
+use Rattle.std.specs.Prelude.{◌/◌, ◌^◌, bytes_eq, slice_get, string_bytes}
 use Rattle.std.specs.BTreeMap.{BTreeMap, get, get_by_text}
 use Rattle.std.specs.Hash.FoldHasher.{initial, write, finish}
 use Rattle.std.specs.Ordering.{nat_cmp}
@@ -9,7 +9,7 @@ use Rattle.protobuf_parse_model.specs.declared.scope.seen.OneHash.{OneHash}
 use Rattle.protobuf_parse_model.specs.declared.scope.seen.Declared.{Declared}
 use Rattle.protobuf_parse_model.specs.declared.scope.seen.Declared.TheVariants.{Once, Often}
 use Rattle.protobuf_parse_model.specs.declared.scope.seen.OneHash.TheVariants.{Name, Names}
-use Rattle.protobuf_parse_model.specs.FileOrder.{listed}
+use Rattle.std.specs.Global.{Vec}
 
 -- the hash of a name: what the hasher of std's maps makes of its bytes
 abbrev pub hash_of : List ℕ → ℕ
@@ -20,6 +20,11 @@ abbrev pub declarations_in : Declared → List Declaration
 declarations_in (Once d) = d ∷ []
 declarations_in (Often ds) = ds.items
 
+-- the declarations of a list that may be there
+abbrev pub listed : Option (Vec Declaration) → List Declaration
+listed None = []
+listed (Some v) = v.items
+
 -- the declarations of the full name, among the names of its hash
 abbrev pub declared_of : Option OneHash → List ℕ → List Declaration
 declared_of None name = []
@@ -27,13 +32,9 @@ declared_of (Some (Name n)) name =
     if bytes_eq (string_bytes n.name) name then declarations_in n.declared else []
 declared_of (Some (Names names)) name = listed (get_by_text names name)
 
--- the declarations of the full name in one map
-abbrev pub declared_in_map : BTreeMap ℕ OneHash → List ℕ → List Declaration
-declared_in_map by_hash name = declared_of (get nat_cmp by_hash (hash_of name)) name
-
 -- which of the maps has a hash: by its highest byte
 abbrev pub map_of : ℕ → ℕ
-map_of hash = hash / 72057594037927936
+map_of hash = hash / 2 ^ 56
 
 -- the names of a hash in a map that may be there
 abbrev pub names_in : Option (BTreeMap ℕ OneHash) → ℕ → Option OneHash
@@ -47,18 +48,3 @@ names_of_hash maps hash = names_in (slice_get maps (map_of hash)) hash
 -- the declarations of the full name
 abbrev pub declared_by_hash : List (BTreeMap ℕ OneHash) → List ℕ → List Declaration
 declared_by_hash maps name = declared_of (names_of_hash maps (hash_of name)) name
-
--- the declaration was added at the end of those of the full name in a map
-abbrev pub AddsInMap : (old new : BTreeMap ℕ OneHash) → List ℕ → Declaration → Type 0
-AddsInMap old new full d = (name : List ℕ) → declared_in_map new name
-    ≡ declared_in_map old name ++ (if bytes_eq full name then d ∷ [] else [])
-
--- and in all of them
-abbrev pub AddsByHash : (old new : List (BTreeMap ℕ OneHash)) → List ℕ → Declaration → Type 0
-AddsByHash old new full d = (name : List ℕ) → declared_by_hash new name
-    ≡ declared_by_hash old name ++ (if bytes_eq full name then d ∷ [] else [])
-
--- what the names of a hash become, where the full name gets the declaration at the end of its own
-abbrev pub IsWith : Option OneHash → List ℕ → Declaration → OneHash → Type 0
-IsWith old full d new = (name : List ℕ) → declared_of (Some new) name
-    ≡ declared_of old name ++ (if bytes_eq full name then d ∷ [] else [])

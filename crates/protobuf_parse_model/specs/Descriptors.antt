@@ -1,7 +1,7 @@
 -- What descriptors say, without where they lie in memory: the messages of
 -- google/protobuf/descriptor.proto (Protocol Buffers, "Descriptors"). Names and texts are bytes; an
 -- absent text or list of options is None.
-use Rattle.std.specs.Prelude.{◌≡◌, ℕ, ℤ, Bool, List, [], ◌∷◌, Option, map, option_map, refl}
+use Rattle.std.specs.Prelude.{ℕ, ℤ, Bool, List, [], ◌∷◌, Option, map, option_map}
 use Rattle.std.specs.Prelude.{string_bytes}
 use Rattle.protobuf_parse_base.specs.DeclaredNames.{name_bytes}
 use Rattle.protobuf_parse_syntax.specs.declared.tree.field.Label.{Label}
@@ -30,7 +30,6 @@ use Rattle.protobuf_parse_model.specs.declared.descriptor.MethodDescriptorProto.
 use Rattle.protobuf_parse_model.specs.declared.descriptor.DescriptorProto.{DescriptorProto}
 use Rattle.protobuf_parse_model.specs.declared.descriptor.DescriptorProto.{fold-DescriptorProto}
 use Rattle.protobuf_parse_model.specs.declared.descriptor.DescriptorProto.{out-DescriptorProto}
-use Rattle.protobuf_parse_model.specs.declared.descriptor.DescriptorProto.TheFolds.{fold_out-DescriptorProto}
 use Rattle.protobuf_parse_model.specs.declared.descriptor.DescriptorProto.TheOpen.{DescriptorProto-F}
 use Rattle.protobuf_parse_model.specs.declared.descriptor.FileDescriptorProto.{FileDescriptorProto}
 
@@ -202,12 +201,6 @@ message_view = fold-DescriptorProto MessageDescriptor message_step
 abbrev pub message_parts : DescriptorProto → MessageParts
 message_parts m = parts_of_message (out-DescriptorProto m)
 
--- a message seen one level deep
-pub message_view_is : (m : DescriptorProto)
-    → message_view m ≡ a_message (message_parts m)
-    (messages_of_list (map message_view (out-DescriptorProto m).nested_type.items))
-message_view_is m = fold_out-DescriptorProto MessageDescriptor message_step m
-
 abbrev pub method_view : MethodDescriptorProto → MethodDescriptor
 method_view m = record {
   name = name_bytes m.name;
@@ -241,10 +234,6 @@ file_view f = record {
   extension = map field_view f.extension.items;
   options = option_map file_options_view f.options;
 }
-
-pub list_of_is : (ms : List MessageDescriptor) → messages_list (messages_of_list ms) ≡ ms
-list_of_is [] = refl
-list_of_is (m ∷ ms) = rw (list_of_is ms) refl
 
 -- ---- the kinds of fields
 

@@ -13,6 +13,11 @@ pub mod OptionMessages
 pub mod SeenFiles
 pub mod Linking
 pub mod FileOrder
+pub mod DeclaredAt
 pub mod Tables
 pub mod OptionTables
 pub mod LastDeclared
+pub mod AddsByHash
+pub mod DeclaredAtViews
+pub mod SeenParts
+pub mod TableParts

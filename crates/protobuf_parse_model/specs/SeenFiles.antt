@@ -14,10 +14,9 @@ use Rattle.protobuf_parse_model.specs.declared.scope.seen.Declaration.{Declarati
 use Rattle.protobuf_parse_model.specs.declared.scope.seen.Declarations.{Declarations}
 use Rattle.protobuf_parse_model.specs.declared.scope.seen.Seen.{Seen}
 use Rattle.protobuf_parse_model.specs.Descriptors.{Text}
-use Rattle.protobuf_parse_syntax.specs.Trees.{FileSyntax}
 use Rattle.protobuf_parse_model.specs.ByHash.{declared_by_hash}
 use Rattle.protobuf_parse_model.specs.Declarations as declared
-use Rattle.protobuf_parse_model.specs.Declarations.{DeclaredType, a_message, an_enum, file_scope}
+use Rattle.protobuf_parse_model.specs.Declarations.{DeclaredType, a_message, an_enum}
 use Rattle.protobuf_parse_model.specs.Environment.{Environment, Customs, no_customs}
 
 -- names as texts
@@ -42,11 +41,6 @@ first_type sight [] = None
 first_type sight (d ∷ ds) = if list_any (nat_eq d.file) sight
     then option_or (type_kind d.kind) (first_type sight ds) else first_type sight ds
 
--- which type the first of the declarations declares that is of one
-abbrev pub first_kind : List Declaration → Option TypeKind
-first_kind [] = None
-first_kind (d ∷ ds) = option_or (type_kind d.kind) (first_kind ds)
-
 -- the declarations of the full name
 abbrev pub declared_as : Declarations → Text → List Declaration
 declared_as ds name = declared_by_hash ds.by_hash.items name
@@ -63,11 +57,6 @@ seen_types seen name =
 -- what a name was found to mean
 abbrev pub meaning_view : Meaning → DeclaredType
 meaning_view m = record { name = string_bytes m.name; what = kind_view m.kind }
-
--- from where a whole file is seen, by the files that it sees
-abbrev pub environment_of_file : Customs → Seen → FileSyntax → Environment
-environment_of_file customs seen t =
-    record { syntax = t.syntax; types = seen_types seen; scope = file_scope t; customs = customs }
 
 -- from where a construct is seen
 abbrev pub environment_in : Customs → Context → Environment

@@ -1,13 +1,13 @@
 -- The statements of bodies as lists, and what the same words mean wherever they stand.
-use Rattle.std.specs.Prelude.{◌≡◌, refl, ◌++◌, List, [], ◌∷◌, map, Bool, true, false, codes}
+use Rattle.std.specs.Prelude.{◌++◌, List, [], ◌∷◌, map, Bool, true, false, codes}
 use Rattle.std.specs.Char.{to_ascii_lowercase}
 use Rattle.protobuf_parse_base.specs.Cases.{camel_case_text}
 use Rattle.protobuf_parse_syntax.specs.Trees.{OptionSyntax, TypeSyntax, scalar, map_of, named}
 use Rattle.protobuf_parse_syntax.specs.Trees.{FieldStatementSyntax, field, group}
 use Rattle.protobuf_parse_syntax.specs.Trees.{FieldStatementList, no_field_statements}
-use Rattle.protobuf_parse_syntax.specs.Trees.{more_field_statements, field_statements}
+use Rattle.protobuf_parse_syntax.specs.Trees.{more_field_statements}
 use Rattle.protobuf_parse_syntax.specs.Trees.{MessageStatementSyntax, MessageStatementList}
-use Rattle.protobuf_parse_syntax.specs.Trees.{no_statements, more_statements, message_statements}
+use Rattle.protobuf_parse_syntax.specs.Trees.{no_statements, more_statements}
 use Rattle.protobuf_parse_syntax.specs.Trees.{OneofStatementSyntax, oneof_option, oneof_field}
 use Rattle.protobuf_parse_model.specs.Descriptors.{Text}
 
@@ -19,14 +19,6 @@ group_body (more_field_statements f fs) = f ∷ group_body fs
 abbrev pub message_body : MessageStatementList → List MessageStatementSyntax
 message_body no_statements = []
 message_body (more_statements s ss) = s ∷ message_body ss
-
-pub group_body_is : (fs : List FieldStatementSyntax) → group_body (field_statements fs) ≡ fs
-group_body_is [] = refl
-group_body_is (f ∷ fs) = rw (group_body_is fs) refl
-
-pub message_body_is : (ss : List MessageStatementSyntax) → message_body (message_statements ss) ≡ ss
-message_body_is [] = refl
-message_body_is (s ∷ ss) = rw (message_body_is ss) refl
 
 -- A group's field has the name of the group in lower case.
 abbrev pub group_field_name : Text → Text

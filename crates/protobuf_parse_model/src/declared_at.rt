@@ -1,38 +1,45 @@
-//! Where in a file a full name is declared last.
+//! What a file declares, by full name, in the order of its text.
 
-ghost use Rattle.std.specs.Prelude.{◌≡◌, ◌∷◌, [], map, flat_map, IfOk, OnOk};
-ghost use Rattle.protobuf_parse_base.specs.DeclaredNames.{name_bytes};
+ghost use Rattle.std.specs.Prelude.{◌≡◌, ◌&&◌, ◌++◌, ◌∷◌, [], map, flat_map, IfOk, OnOk};
+ghost use Rattle.std.specs.Prelude.{bytes_eq, string_bytes};
 ghost use Rattle.protobuf_parse_syntax.specs.Trees as tree;
 ghost use Rattle.protobuf_parse_syntax.specs.Trees.{extend_syntax, field_statement_syntax};
 ghost use Rattle.protobuf_parse_syntax.specs.Trees.{field_syntax, file_syntax};
-ghost use Rattle.protobuf_parse_syntax.specs.Trees.{message_statement_syntax, message_syntax};
+ghost use Rattle.protobuf_parse_syntax.specs.Trees.{message_syntax};
+ghost use Rattle.protobuf_parse_syntax.specs.InnerViews.{message_statement_syntax};
 ghost use Rattle.protobuf_parse_syntax.specs.Trees.{nested_message, oneof_statement_syntax};
 ghost use Rattle.protobuf_parse_syntax.specs.Trees.{oneof_syntax, statement_syntax};
-ghost use Rattle.protobuf_parse_model.specs.Declarations.{declare, inside};
+ghost use Rattle.protobuf_parse_model.specs.DeclaredAt.{behind_at, body_at, declare_at};
+ghost use Rattle.protobuf_parse_model.specs.DeclaredAt.{extend_at, file_at};
+ghost use Rattle.protobuf_parse_model.specs.DeclaredAtViews.{declared_at_view};
+ghost use Rattle.protobuf_parse_model.specs.DeclaredAt.{oneof_at, statement_at};
 ghost use Rattle.protobuf_parse_model.specs.LastDeclared as spec;
-ghost use Rattle.protobuf_parse_model.specs.LastDeclared.{last_place};
 ghost use Rattle.protobuf_parse_model.specs.SeenFiles.{name_texts};
+ghost use Rattle.protobuf_parse_model.specs.Tables.{is_of};
 
+use crate::linking::is_of;
 use crate::made_names::{entry_name, group_field_name};
-use crate::scope::{file_scope, full_name};
+use crate::scope::{DeclarationKind, file_scope, full_name};
 use protobuf_parse_lexer::Place;
 use protobuf_parse_syntax::{
-    Extend, Field, FieldStatement, FileStatement, FileTree, Group, Message, MessageStatement,
-    OneOf, OneOfStatement, Type,
+    Extend, Field, FieldStatement, FileStatement, FileTree, Message, MessageStatement, OneOf,
+    OneOfStatement, Type,
 };
 use std::alloc::{AllocError, Global};
 
-/// A full name that is looked for: that of an extension, or else of a message or an enum.
-#[derive(Clone, Copy)]
-struct Wanted<'n> {
-    name: &'n str,
-    extension: bool,
+/// Something that a file declares.
+#[derive(Drop)]
+pub struct DeclaredAt {
+    /// The full name, with its first dot.
+    pub name: String,
+    pub kind: DeclarationKind,
+    /// Where it begins; what stands behind a map or a group, where that begins.
+    pub place: Place,
 }
 
 /// Where the last declaration in the file of this full name begins, which has its first dot: of an
 /// extension, or else of a message or an enum, those behind maps and groups with them. The one
 /// error is that memory is short.
-#[tactic(auto, using(crate::proofs::LastDeclared::last_append))]
 pub fn last_declared(
     alloc: Global,
     tree: &FileTree,
@@ -42,34 +49,61 @@ pub fn last_declared(
     ensures { IfOk result
         (λ place. place ≡ spec.last_declared extension name.now (file_syntax tree.now)) }
 {
-    let wanted = Wanted { name, extension };
-    let mut scope = file_scope(alloc, tree)?;
     let mut found = None;
-    for statement in &tree.statements {
-        look_in_statement(&mut found, alloc, wanted, &mut scope, statement)?;
+    for declared in declared_in_order(alloc, tree)? {
+        if is_meant(&declared, name, extension) {
+            found = Some(declared.place);
+        }
     }
     Ok(found)
 }
 
-/// Looks in a statement of a file.
-fn look_in_statement<'a>(
-    found: &mut Option<Place>,
+/// Whether this has the full name, and is an extension or else a type.
+fn is_meant(declared: &DeclaredAt, name: &str, extension: bool) -> bool
+    ensures { result ≡ (is_of extension declared.now.kind
+        && bytes_eq (string_bytes declared.now.name) name.now) }
+{
+    is_of(declared.kind, extension) && declared.name.as_str() == name
+}
+
+/// The messages, enums and extensions that a file declares and the messages behind its maps and
+/// groups, in the order of its text. The one error is that memory is short.
+pub fn declared_in_order(alloc: Global, tree: &FileTree) -> Result<Vec<DeclaredAt>, AllocError>
+    ensures { IfOk result (λ v. map declared_at_view v.items ≡ file_at (file_syntax tree.now)) }
+{
+    let mut list = Vec::new(alloc);
+    let mut scope = file_scope(alloc, tree)?;
+    for statement in &tree.statements {
+        add_statement(&mut list, alloc, &mut scope, statement)?;
+    }
+    Ok(list)
+}
+
+/// Adds what a statement of a file declares.
+fn add_statement<'a>(
+    list: &mut Vec<DeclaredAt>,
     alloc: Global,
-    wanted: Wanted<'_>,
     scope: &mut Vec<&'a str>,
     statement: &'a FileStatement,
 ) -> Result<(), AllocError>
     ensures scope { OnOk result (name_texts scope.new.items ≡ name_texts scope.old.items) }
-    ensures found { OnOk result (found.new ≡ last_place wanted.entry.name.now found.old
-        (spec.statement_places wanted.entry.extension (name_texts scope.old.items)
-        (statement_syntax statement.now))) }
+    ensures adds { OnOk result (map declared_at_view list.new.items
+        ≡ map declared_at_view list.old.items
+        ++ statement_at (name_texts scope.old.items) (statement_syntax statement.now)) }
 {
     match statement {
-        FileStatement::Message(message) => look_in_message(found, alloc, wanted, scope, message),
+        FileStatement::Message(message) => add_message(list, alloc, scope, message),
         FileStatement::Enumeration(inner) => {
-            look_at_type(found, alloc, wanted, scope, &inner.name, inner.place)
+            add(
+                list,
+                alloc,
+                scope,
+                &inner.name,
+                DeclarationKind::Enum,
+                inner.place,
+            )
         }
-        FileStatement::Extend(extend) => look_in_extend(found, alloc, wanted, scope, extend),
+        FileStatement::Extend(extend) => add_extend(list, alloc, scope, extend),
         FileStatement::Import(_)
         | FileStatement::Package(_)
         | FileStatement::Option(_)
@@ -77,250 +111,226 @@ fn look_in_statement<'a>(
     }
 }
 
-/// Looks at a message of the scope, and inside it.
-#[cycle(look)]
-fn look_in_message<'a>(
-    found: &mut Option<Place>,
+/// Adds a message of the scope, and what it declares.
+#[cycle(body)]
+fn add_message<'a>(
+    list: &mut Vec<DeclaredAt>,
     alloc: Global,
-    wanted: Wanted<'_>,
     scope: &mut Vec<&'a str>,
     message: &'a Message,
 ) -> Result<(), AllocError>
     ensures scope { OnOk result (name_texts scope.new.items ≡ name_texts scope.old.items) }
-    ensures found { OnOk result (found.new ≡ last_place wanted.entry.name.now found.old
-        (spec.places_of wanted.entry.extension (name_texts scope.old.items)
-        (nested_message (message_syntax message.now)))) }
+    ensures adds { OnOk result (map declared_at_view list.new.items
+        ≡ map declared_at_view list.old.items
+        ++ body_at (name_texts scope.old.items) (nested_message (message_syntax message.now))) }
 {
-    look_at_type(found, alloc, wanted, scope, &message.name, message.place)?;
-    look_inside(found, alloc, wanted, scope, message)
-}
-
-/// Looks inside a message of the scope.
-#[cycle(look)]
-fn look_inside<'a>(
-    found: &mut Option<Place>,
-    alloc: Global,
-    wanted: Wanted<'_>,
-    scope: &mut Vec<&'a str>,
-    message: &'a Message,
-) -> Result<(), AllocError>
-    ensures scope { OnOk result (name_texts scope.new.items ≡ name_texts scope.old.items) }
-    ensures found { OnOk result (found.new ≡ last_place wanted.entry.name.now found.old
-        (flat_map (spec.places_of wanted.entry.extension
-        (inside (name_texts scope.old.items) (name_bytes message.now.name)))
-        (map message_statement_syntax message.now.body.items))) }
-{
+    add(
+        list,
+        alloc,
+        scope,
+        &message.name,
+        DeclarationKind::Message,
+        message.place,
+    )?;
     scope.push(&message.name)?;
     for statement in &message.body {
-        look_in_body(found, alloc, wanted, scope, statement)?;
+        add_body_statement(list, alloc, scope, statement)?;
     }
     scope.pop();
     Ok(())
 }
 
-/// Looks in a statement inside the message that ends the scope.
-#[cycle(look)]
-fn look_in_body<'a>(
-    found: &mut Option<Place>,
+/// Adds what a statement inside the message that ends the scope declares.
+#[cycle(body)]
+fn add_body_statement<'a>(
+    list: &mut Vec<DeclaredAt>,
     alloc: Global,
-    wanted: Wanted<'_>,
     scope: &mut Vec<&'a str>,
     statement: &'a MessageStatement,
 ) -> Result<(), AllocError>
     ensures scope { OnOk result (name_texts scope.new.items ≡ name_texts scope.old.items) }
-    ensures found { OnOk result (found.new ≡ last_place wanted.entry.name.now found.old
-        (spec.places_of wanted.entry.extension (name_texts scope.old.items)
-        (message_statement_syntax statement.now))) }
+    ensures adds { OnOk result (map declared_at_view list.new.items
+        ≡ map declared_at_view list.old.items
+        ++ body_at (name_texts scope.old.items) (message_statement_syntax statement.now)) }
 {
     match statement {
-        MessageStatement::Message(message) => {
-            look_in_message(found, alloc, wanted, scope, message)
-        }
+        MessageStatement::Message(message) => add_message(list, alloc, scope, message),
         MessageStatement::Enumeration(inner) => {
-            look_at_type(found, alloc, wanted, scope, &inner.name, inner.place)
+            add(
+                list,
+                alloc,
+                scope,
+                &inner.name,
+                DeclarationKind::Enum,
+                inner.place,
+            )
         }
-        MessageStatement::Field(field) => look_behind(found, alloc, wanted, scope, field),
-        MessageStatement::OneOf(oneof) => look_in_oneof(found, alloc, wanted, scope, oneof),
-        MessageStatement::Extend(extend) => look_in_extend(found, alloc, wanted, scope, extend),
+        MessageStatement::Field(field) => add_behind(list, alloc, scope, field),
+        MessageStatement::OneOf(oneof) => add_oneof(list, alloc, scope, oneof),
+        MessageStatement::Extend(extend) => add_extend(list, alloc, scope, extend),
         MessageStatement::Reserved(_)
         | MessageStatement::Extensions(_)
         | MessageStatement::Option(_) => Ok(()),
     }
 }
 
-/// Looks behind the fields of a oneof.
-#[tactic(auto, using(crate::proofs::LastDeclared::last_append))]
-fn look_in_oneof(
-    found: &mut Option<Place>,
+/// Adds what stands behind the fields of a oneof.
+fn add_oneof(
+    list: &mut Vec<DeclaredAt>,
     alloc: Global,
-    wanted: Wanted<'_>,
     scope: &[&str],
     oneof: &OneOf,
 ) -> Result<(), AllocError>
-    ensures { OnOk result (found.new ≡ last_place wanted.entry.name.now found.old
-        (flat_map (spec.oneof_place wanted.entry.extension (name_texts scope.now))
-        (oneof_syntax oneof.now).body)) }
+    ensures { OnOk result (map declared_at_view list.new.items
+        ≡ map declared_at_view list.old.items
+        ++ flat_map (oneof_at (name_texts scope.now)) (oneof_syntax oneof.now).body) }
 {
     for statement in &oneof.body {
-        look_at_choice(found, alloc, wanted, scope, statement)?;
+        add_oneof_statement(list, alloc, scope, statement)?;
     }
     Ok(())
 }
 
-/// Looks behind a statement of a oneof.
-fn look_at_choice(
-    found: &mut Option<Place>,
+/// Adds what stands behind a statement of a oneof.
+fn add_oneof_statement(
+    list: &mut Vec<DeclaredAt>,
     alloc: Global,
-    wanted: Wanted<'_>,
     scope: &[&str],
     statement: &OneOfStatement,
 ) -> Result<(), AllocError>
-    ensures { OnOk result (found.new ≡ last_place wanted.entry.name.now found.old
-        (spec.oneof_place wanted.entry.extension (name_texts scope.now)
-        (oneof_statement_syntax statement.now))) }
+    ensures { OnOk result (map declared_at_view list.new.items
+        ≡ map declared_at_view list.old.items
+        ++ oneof_at (name_texts scope.now) (oneof_statement_syntax statement.now)) }
 {
     match statement {
-        OneOfStatement::Field(field) => look_behind(found, alloc, wanted, scope, field),
+        OneOfStatement::Field(field) => add_behind(list, alloc, scope, field),
         OneOfStatement::Option(_) => Ok(()),
     }
 }
 
-/// Looks at the extensions of an `extend`, and behind its groups.
-#[tactic(auto, using(crate::proofs::LastDeclared::last_append))]
-fn look_in_extend(
-    found: &mut Option<Place>,
+/// Adds the extensions of an `extend`, and what stands behind its groups.
+fn add_extend(
+    list: &mut Vec<DeclaredAt>,
     alloc: Global,
-    wanted: Wanted<'_>,
     scope: &[&str],
     extend: &Extend,
 ) -> Result<(), AllocError>
-    ensures { OnOk result (found.new ≡ last_place wanted.entry.name.now found.old
-        (flat_map (spec.extend_places wanted.entry.extension (name_texts scope.now))
-        (extend_syntax extend.now).fields)) }
+    ensures { OnOk result (map declared_at_view list.new.items
+        ≡ map declared_at_view list.old.items
+        ++ flat_map (extend_at (name_texts scope.now)) (extend_syntax extend.now).fields) }
 {
     for statement in &extend.fields {
-        look_at_extension(found, alloc, wanted, scope, statement)?;
+        add_extension(list, alloc, scope, statement)?;
     }
     Ok(())
 }
 
-/// Looks at an extension, and behind it where it is a group.
-#[tactic(auto, using(crate::proofs::LastDeclared::last_append))]
-fn look_at_extension(
-    found: &mut Option<Place>,
+/// Adds an extension, behind its message where it is a group.
+fn add_extension(
+    list: &mut Vec<DeclaredAt>,
     alloc: Global,
-    wanted: Wanted<'_>,
     scope: &[&str],
     statement: &FieldStatement,
 ) -> Result<(), AllocError>
-    ensures { OnOk result (found.new ≡ last_place wanted.entry.name.now found.old
-        (spec.extend_places wanted.entry.extension (name_texts scope.now)
-        (field_statement_syntax statement.now))) }
+    ensures { OnOk result (map declared_at_view list.new.items
+        ≡ map declared_at_view list.old.items
+        ++ extend_at (name_texts scope.now) (field_statement_syntax statement.now)) }
 {
     match statement {
         FieldStatement::Field(field) => {
-            look_at_field(found, alloc, wanted, scope, &field.name, field.place)
+            add(
+                list,
+                alloc,
+                scope,
+                &field.name,
+                DeclarationKind::Extension,
+                field.place,
+            )
         }
         FieldStatement::Group(group) => {
+            let kind = DeclarationKind::Generated;
+            add(list, alloc, scope, &group.name, kind, group.place)?;
             let name = group_field_name(alloc, &group.name)?;
-            look_at_field(found, alloc, wanted, scope, &name, group.place)?;
-            look_at_type(found, alloc, wanted, scope, &group.name, group.place)
+            add(
+                list,
+                alloc,
+                scope,
+                &name,
+                DeclarationKind::Extension,
+                group.place,
+            )
         }
     }
 }
 
-/// Looks at the message behind a statement that declares a field, if one stands there.
-fn look_behind(
-    found: &mut Option<Place>,
+/// Adds the message behind a statement that declares a field, if one stands there.
+#[inline(always)]
+fn add_behind(
+    list: &mut Vec<DeclaredAt>,
     alloc: Global,
-    wanted: Wanted<'_>,
     scope: &[&str],
     statement: &FieldStatement,
 ) -> Result<(), AllocError>
-    ensures { OnOk result (found.new ≡ last_place wanted.entry.name.now found.old
-        (spec.generated_place wanted.entry.extension (name_texts scope.now)
-        (field_statement_syntax statement.now))) }
+    ensures { OnOk result (map declared_at_view list.new.items
+        ≡ map declared_at_view list.old.items
+        ++ behind_at (name_texts scope.now) (field_statement_syntax statement.now)) }
 {
     match statement {
-        FieldStatement::Field(field) => look_behind_field(found, alloc, wanted, scope, field),
+        FieldStatement::Field(field) => add_entry(list, alloc, scope, field),
         FieldStatement::Group(group) => {
-            look_at_type(found, alloc, wanted, scope, &group.name, group.place)
+            add(
+                list,
+                alloc,
+                scope,
+                &group.name,
+                DeclarationKind::Generated,
+                group.place,
+            )
         }
     }
 }
 
-/// Looks at the message of a map's entries, where the field is a map.
-fn look_behind_field(
-    found: &mut Option<Place>,
+/// Adds the message of a map's entries, where the field is a map.
+fn add_entry(
+    list: &mut Vec<DeclaredAt>,
     alloc: Global,
-    wanted: Wanted<'_>,
     scope: &[&str],
     field: &Field,
 ) -> Result<(), AllocError>
-    ensures { OnOk result (found.new ≡ last_place wanted.entry.name.now found.old
-        (spec.generated_place wanted.entry.extension (name_texts scope.now)
-        (tree.field (field_syntax field.now)))) }
+    ensures { OnOk result (map declared_at_view list.new.items
+        ≡ map declared_at_view list.old.items
+        ++ behind_at (name_texts scope.now) (tree.field (field_syntax field.now))) }
 {
     match &field.type_ {
         Type::Map(_, _) => {
             let name = entry_name(alloc, &field.name)?;
-            look_at_type(found, alloc, wanted, scope, &name, field.place)
+            add(
+                list,
+                alloc,
+                scope,
+                &name,
+                DeclarationKind::Generated,
+                field.place,
+            )
         }
         Type::Scalar(_) | Type::Named(_) => Ok(()),
     }
 }
 
-/// Looks at a message or an enum of that name in the scope.
-fn look_at_type(
-    found: &mut Option<Place>,
+/// Adds what has that name in the scope.
+fn add(
+    list: &mut Vec<DeclaredAt>,
     alloc: Global,
-    wanted: Wanted<'_>,
     scope: &[&str],
     name: &str,
+    kind: DeclarationKind,
     place: Place,
 ) -> Result<(), AllocError>
-    ensures { OnOk result (found.new ≡ last_place wanted.entry.name.now found.old
-        (spec.type_place wanted.entry.extension (name_texts scope.now) name.now place)) }
+    ensures { OnOk result (map declared_at_view list.new.items
+        ≡ map declared_at_view list.old.items
+        ++ declare_at (name_texts scope.now) name.now kind place ∷ []) }
 {
-    if wanted.extension {
-        return Ok(());
-    }
-    look_at(found, alloc, wanted.name, scope, name, place)
-}
-
-/// Looks at an extension of that name in the scope.
-fn look_at_field(
-    found: &mut Option<Place>,
-    alloc: Global,
-    wanted: Wanted<'_>,
-    scope: &[&str],
-    name: &str,
-    place: Place,
-) -> Result<(), AllocError>
-    ensures { OnOk result (found.new ≡ last_place wanted.entry.name.now found.old
-        (spec.extension_place wanted.entry.extension (name_texts scope.now) name.now place)) }
-{
-    if wanted.extension {
-        return look_at(found, alloc, wanted.name, scope, name, place);
-    }
-    Ok(())
-}
-
-/// Looks at a declaration of that name in the scope, which stands at the place.
-fn look_at(
-    found: &mut Option<Place>,
-    alloc: Global,
-    wanted: &str,
-    scope: &[&str],
-    name: &str,
-    place: Place,
-) -> Result<(), AllocError>
-    ensures { OnOk result (found.new ≡ last_place wanted.now found.old
-        (declare (name_texts scope.now) name.now place ∷ [])) }
-{
-    let full = full_name(alloc, scope, name)?;
-    if full.as_str() == wanted {
-        *found = Some(place);
-    }
+    let name = full_name(alloc, scope, name)?;
+    list.push(DeclaredAt { name, kind, place })?;
     Ok(())
 }

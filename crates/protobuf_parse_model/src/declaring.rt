@@ -4,7 +4,8 @@ ghost use Rattle.std.specs.Prelude.{◌≡◌, ℕ, ◌∷◌, [], List, filter,
 ghost use Rattle.protobuf_parse_syntax.specs.Trees.{FileSyntax};
 ghost use Rattle.protobuf_parse_model.specs.Linking.{declares_name};
 ghost use Rattle.protobuf_parse_model.specs.SeenFiles.{declared_as};
-ghost use Rattle.protobuf_parse_model.specs.Tables.{TableTells, times};
+ghost use Rattle.protobuf_parse_model.specs.Tables.{TableTells};
+ghost use Rattle.protobuf_parse_model.specs.TableParts.{times};
 
 use crate::linking::times;
 use crate::scope::{Seen, declarations_of};

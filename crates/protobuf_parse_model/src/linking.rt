@@ -8,9 +8,12 @@ ghost use Rattle.protobuf_parse_model.specs.declared.scope.seen.Declaration as d
 ghost use Rattle.protobuf_parse_model.specs.Faults.{Elaborates};
 ghost use Rattle.protobuf_parse_model.specs.FileOrder.{FilesAscend};
 ghost use Rattle.protobuf_parse_model.specs.Linking.{link_faults};
-ghost use Rattle.protobuf_parse_model.specs.Tables.{TableTells, is_of, listed_faults, listed_files};
-ghost use Rattle.protobuf_parse_model.specs.Tables.{listed_names, reached_faults};
-ghost use Rattle.protobuf_parse_model.specs.Tables.{name_faults, picked, times};
+ghost use Rattle.protobuf_parse_model.specs.Tables.{TableTells, is_of};
+ghost use Rattle.protobuf_parse_model.specs.TableParts.{listed_faults, listed_files};
+ghost use Rattle.protobuf_parse_model.specs.Tables.{listed_names};
+ghost use Rattle.protobuf_parse_model.specs.TableParts.{reached_faults};
+ghost use Rattle.protobuf_parse_model.specs.Tables.{picked};
+ghost use Rattle.protobuf_parse_model.specs.TableParts.{name_faults, times};
 
 use crate::error::{ElabErrorKind, ElabFailure, fault};
 use crate::scope::{Declaration, DeclarationKind, Declarations, Seen, declarations_of, in_file};
@@ -176,7 +179,7 @@ fn counts(seen: &Seen<'_>, declaration: Declaration, extension: bool) -> bool
 }
 
 /// Whether this is what an extension is declared as, or else what a type is.
-fn is_of(kind: DeclarationKind, extension: bool) -> bool
+pub fn is_of(kind: DeclarationKind, extension: bool) -> bool
     ensures { result ≡ is_of extension kind }
 {
     match kind {

@@ -13,15 +13,14 @@ ghost use Rattle.protobuf_parse_model.specs.Lookup.{begins_with_dot, declared_in
 ghost use Rattle.protobuf_parse_model.specs.Tables.{TableTells, picked};
 ghost use Rattle.protobuf_parse_model.specs.SeenFiles.{names_of_context};
 ghost use Rattle.protobuf_parse_model.specs.FileOrder.{FilesAscend};
-ghost use Rattle.protobuf_parse_model.specs.SeenFiles.{declared_as, first_kind, first_type};
+ghost use Rattle.protobuf_parse_model.specs.SeenFiles.{declared_as, first_type};
+ghost use Rattle.protobuf_parse_model.specs.SeenParts.{first_kind};
 ghost use Rattle.protobuf_parse_model.specs.SeenFiles.{meaning_view};
 ghost use Rattle.protobuf_parse_model.specs.SeenFiles.{declared_type, seen_types};
 ghost use Rattle.protobuf_parse_model.specs.SeenFiles.{name_texts, type_kind};
 
 mod by_hash;
 mod declare;
-mod extensions;
-mod generated;
 mod ordered;
 mod seen;
 

@@ -5,11 +5,13 @@ ghost use Rattle.std.specs.Prelude.{string_bytes, option_map, None, Some, IfOk, 
 ghost use Rattle.std.specs.Prelude.{OnOk};
 ghost use Rattle.std.specs.BTreeMap.{get_by_text};
 ghost use Rattle.protobuf_parse_model.specs.declared.scope.seen.OneHash.TheVariants.{Name, Names};
-ghost use Rattle.protobuf_parse_model.specs.ByHash.{AddsByHash, AddsInMap, IsWith, declarations_in};
-ghost use Rattle.protobuf_parse_model.specs.ByHash.{declared_by_hash, declared_in_map, declared_of};
+ghost use Rattle.protobuf_parse_model.specs.ByHash.{declarations_in};
+ghost use Rattle.protobuf_parse_model.specs.AddsByHash.{AddsByHash, AddsInMap, IsWith};
+ghost use Rattle.protobuf_parse_model.specs.ByHash.{declared_by_hash, declared_of};
+ghost use Rattle.protobuf_parse_model.specs.AddsByHash.{declared_in_map};
 ghost use Rattle.protobuf_parse_model.specs.ByHash.{hash_of, map_of, names_of_hash};
 ghost use Rattle.protobuf_parse_model.specs.Descriptors.{Text};
-ghost use Rattle.protobuf_parse_model.specs.FileOrder.{listed};
+ghost use Rattle.protobuf_parse_model.specs.ByHash.{listed};
 
 use super::seen::{Declaration, Declared, DeclaredName, OneHash};
 use std::alloc::{AllocError, Global};

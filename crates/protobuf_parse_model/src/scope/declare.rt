@@ -1,31 +1,27 @@
 //! What files declare, by full name.
 
-ghost use Rattle.std.specs.Prelude.{◌≡◌, ℕ, true, List, [], ◌∷◌, ◌++◌, map, flat_map, length};
+ghost use Rattle.std.specs.Prelude.{◌≡◌, ℕ, true, List, [], ◌∷◌, ◌++◌, length};
 ghost use Rattle.std.specs.Prelude.{nat_eq};
 ghost use Rattle.std.specs.Prelude.{bytes_eq, if◌then◌else◌, string_bytes, Contains, IfOk, OnOk};
 ghost use Rattle.std.specs.Prelude.{None, IsSome, IfSome};
 ghost use Rattle.protobuf_parse_base.specs.Names.{relative_idents};
 ghost use Rattle.protobuf_parse_lexer.specs.Text.{seen_by};
 ghost use Rattle.protobuf_parse_syntax.specs.Trees.{FileSyntax, file_syntax};
-ghost use Rattle.protobuf_parse_syntax.specs.Trees.{message_statement_syntax};
-ghost use Rattle.protobuf_parse_syntax.specs.Trees.{message_syntax, nested_message};
-ghost use Rattle.protobuf_parse_syntax.specs.Trees.{statement_syntax};
 ghost use Rattle.protobuf_parse_model.specs.Declarations as names;
 ghost use Rattle.protobuf_parse_model.specs.Descriptors.{Text};
 ghost use Rattle.protobuf_parse_model.specs.ByHash.{hash_of};
 ghost use Rattle.protobuf_parse_model.specs.FileOrder.{FilesAscend};
-ghost use Rattle.protobuf_parse_model.specs.SeenFiles.{declared_as, kind_view, name_texts};
-ghost use Rattle.protobuf_parse_model.specs.Tables.{Adds, AddsOne, KeepsListed, ListsOne, SaysSame};
+ghost use Rattle.protobuf_parse_model.specs.SeenFiles.{declared_as, name_texts};
+ghost use Rattle.protobuf_parse_model.specs.Tables.{AddsOne, SaysSame};
+ghost use Rattle.protobuf_parse_model.specs.TableParts.{KeepsListed, ListsOne};
 ghost use Rattle.protobuf_parse_model.specs.Tables.{TableTells};
 ghost use Rattle.protobuf_parse_model.specs.Tables.{names_listed};
-ghost use Rattle.protobuf_parse_model.specs.Tables.{type_entry};
 
 use super::by_hash::{add_alike, hash_of, insert_first};
-use super::extensions::add_extensions;
-use super::generated::add_generated;
-use super::seen::{Declaration, DeclarationKind, Declarations, TypeKind};
-use super::{declarations_of, full_name};
-use protobuf_parse_syntax::{FileStatement, FileTree, Message, MessageStatement};
+use super::declarations_of;
+use super::seen::{Declaration, Declarations};
+use crate::declared_at::declared_in_order;
+use protobuf_parse_syntax::FileTree;
 use std::alloc::{AllocError, Global};
 use std::collections::BTreeMap;
 
@@ -48,54 +44,11 @@ impl Declarations {
         ensures { OnOk result ((files : List FileSyntax) → length files ≡ file →
             TableTells self.old files → TableTells self.new (files ++ file_syntax tree.now ∷ [])) }
     {
-        let mut scope = file_scope(alloc, tree)?;
-        add_types(self, alloc, file, &mut scope, &tree.statements)?;
-        add_generated(self, alloc, file, &mut scope, &tree.statements)?;
-        add_extensions(self, alloc, file, &mut scope, &tree.statements)
-    }
-}
-
-/// Adds each message and each enum that statements of a file declare.
-fn add_types<'a>(
-    table: &mut Declarations,
-    alloc: Global,
-    file: u32,
-    scope: &mut Vec<&'a str>,
-    statements: &'a [FileStatement],
-) -> Result<(), AllocError>
-    ensures scope { OnOk result (name_texts scope.new.items ≡ name_texts scope.old.items) }
-    ensures adds { OnOk result (Adds type_entry table.old table.new file
-        (flat_map (names.statement_types (name_texts scope.old.items))
-        (map statement_syntax statements.now))) }
-{
-    for statement in statements {
-        add_declared(table, alloc, file, scope, statement)?;
-    }
-    Ok(())
-}
-
-/// Adds what a statement of a file declares.
-fn add_declared<'a>(
-    table: &mut Declarations,
-    alloc: Global,
-    file: u32,
-    scope: &mut Vec<&'a str>,
-    statement: &'a FileStatement,
-) -> Result<(), AllocError>
-    ensures scope { OnOk result (name_texts scope.new.items ≡ name_texts scope.old.items) }
-    ensures adds { OnOk result (Adds type_entry table.old table.new file
-        (names.statement_types (name_texts scope.old.items) (statement_syntax statement.now))) }
-{
-    match statement {
-        FileStatement::Message(message) => add_message(table, alloc, file, scope, message),
-        FileStatement::Enumeration(inner) => {
-            add_type(table, alloc, file, scope, &inner.name, TypeKind::Enum)
+        for declared in declared_in_order(alloc, tree)? {
+            let kind = declared.kind;
+            put(self, alloc, declared.name, Declaration { file, kind })?;
         }
-        FileStatement::Import(_)
-        | FileStatement::Package(_)
-        | FileStatement::Option(_)
-        | FileStatement::Extend(_)
-        | FileStatement::Service(_) => Ok(()),
+        Ok(())
     }
 }
 
@@ -128,90 +81,6 @@ fn identifiers(alloc: Global, name: &str) -> Result<Vec<&str>, AllocError>
         return Ok(Vec::new(alloc));
     }
     name.split('.').collect(alloc)
-}
-
-/// Adds a message of the scope, and each message and each enum inside it.
-#[cycle(declare)]
-fn add_message<'a>(
-    table: &mut Declarations,
-    alloc: Global,
-    file: u32,
-    scope: &mut Vec<&'a str>,
-    message: &'a Message,
-) -> Result<(), AllocError>
-    ensures scope { OnOk result (name_texts scope.new.items ≡ name_texts scope.old.items) }
-    ensures adds { OnOk result (Adds type_entry table.old table.new file
-        (names.types_of (name_texts scope.old.items)
-        (nested_message (message_syntax message.now)))) }
-{
-    add_type(table, alloc, file, scope, &message.name, TypeKind::Message)?;
-    scope.push(&message.name)?;
-    for statement in &message.body {
-        add_statement(table, alloc, file, scope, statement)?;
-    }
-    scope.pop();
-    Ok(())
-}
-
-/// Adds what a statement inside the message that ends the scope declares.
-#[cycle(declare)]
-fn add_statement<'a>(
-    table: &mut Declarations,
-    alloc: Global,
-    file: u32,
-    scope: &mut Vec<&'a str>,
-    statement: &'a MessageStatement,
-) -> Result<(), AllocError>
-    ensures scope { OnOk result (name_texts scope.new.items ≡ name_texts scope.old.items) }
-    ensures adds { OnOk result (Adds type_entry table.old table.new file
-        (names.types_of (name_texts scope.old.items) (message_statement_syntax statement.now))) }
-{
-    match statement {
-        MessageStatement::Message(message) => add_message(table, alloc, file, scope, message),
-        MessageStatement::Enumeration(inner) => {
-            add_type(table, alloc, file, scope, &inner.name, TypeKind::Enum)
-        }
-        MessageStatement::Reserved(_)
-        | MessageStatement::OneOf(_)
-        | MessageStatement::Extend(_)
-        | MessageStatement::Extensions(_)
-        | MessageStatement::Option(_)
-        | MessageStatement::Field(_) => Ok(()),
-    }
-}
-
-/// Adds a type that the file declares by that name in the scope.
-fn add_type(
-    table: &mut Declarations,
-    alloc: Global,
-    file: u32,
-    scope: &[&str],
-    name: &str,
-    kind: TypeKind,
-) -> Result<(), AllocError>
-    ensures { OnOk result (Adds type_entry table.old table.new file
-        (names.declare (name_texts scope.now) name.now (kind_view kind) ∷ [])) }
-{
-    let kind = match kind {
-        TypeKind::Message => DeclarationKind::Message,
-        TypeKind::Enum => DeclarationKind::Enum,
-    };
-    add_name(table, alloc, scope, name, Declaration { file, kind })
-}
-
-/// Adds the declaration of that name in the scope.
-pub fn add_name(
-    table: &mut Declarations,
-    alloc: Global,
-    scope: &[&str],
-    name: &str,
-    declaration: Declaration,
-) -> Result<(), AllocError>
-    ensures { OnOk result (AddsOne table.old table.new
-        (names.full_name (name_texts scope.now) name.now) declaration) }
-{
-    let name = full_name(alloc, scope, name)?;
-    put(table, alloc, name, declaration)
 }
 
 /// Adds a declaration of that full name.

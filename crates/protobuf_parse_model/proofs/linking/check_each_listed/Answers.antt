@@ -1,6 +1,6 @@
 use Rattle.std.proofs.Common.{◌∙◌, ◌++◌, ◌∷◌, [], ap, append_assoc, sym}
 use Rattle.std.proofs.lemmas.Grind.{flat_map-append}
-use Rattle.protobuf_parse_model.specs.Tables.{reached_faults}
+use Rattle.protobuf_parse_model.specs.TableParts.{reached_faults}
 use Rattle.protobuf_parse_model.proofs.linking.check_each_listed.Goals as goal
 
 pub loop-file-preserved : goal.loop-file-preserved

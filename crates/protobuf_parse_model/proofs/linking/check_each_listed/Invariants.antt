@@ -1,5 +1,5 @@
 use Rattle.std.proofs.Common.{◌≡◌, ◌++◌, [], List, ℕ, flat_map}
-use Rattle.protobuf_parse_model.specs.Tables.{listed_files, reached_faults}
+use Rattle.protobuf_parse_model.specs.TableParts.{listed_files, reached_faults}
 use Rattle.protobuf_parse_model.proofs.linking.check_each_listed.Given as goal
 
 abbrev pub invariant-loop-file : goal.invariant-loop-file

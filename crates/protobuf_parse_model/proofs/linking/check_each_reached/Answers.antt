@@ -1,7 +1,7 @@
 use Rattle.std.proofs.Common.{get_or}
 use Rattle.std.proofs.lemmas.List.{get_or_default}
 use Rattle.std.proofs.lemmas.Result.{err_from_is_err_and}
-use Rattle.protobuf_parse_model.specs.Tables.{listed_faults}
+use Rattle.protobuf_parse_model.specs.TableParts.{listed_faults}
 use Rattle.protobuf_parse_model.proofs.Blaming.{blames_one, none_more}
 use Rattle.protobuf_parse_model.proofs.linking.check_each_reached.Goals as goal
 

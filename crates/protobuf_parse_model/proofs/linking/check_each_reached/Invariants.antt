@@ -1,5 +1,5 @@
 use Rattle.std.proofs.Common.{◌≡◌, [], take, flat_map}
-use Rattle.protobuf_parse_model.specs.Tables.{listed_faults}
+use Rattle.protobuf_parse_model.specs.TableParts.{listed_faults}
 use Rattle.protobuf_parse_model.proofs.linking.check_each_reached.Given as goal
 
 abbrev pub invariant-loop-file : goal.invariant-loop-file

@@ -1,7 +1,7 @@
 use Rattle.std.proofs.Common.{List, flat_map, subst}
 use Rattle.protobuf_parse_model.specs.Descriptors.{Text}
 use Rattle.protobuf_parse_model.specs.Faults.{Elaborates}
-use Rattle.protobuf_parse_model.specs.Tables.{name_faults}
+use Rattle.protobuf_parse_model.specs.TableParts.{name_faults}
 use Rattle.protobuf_parse_model.proofs.linking.check_file.Goals as goal
 
 pub returns : goal.returns

@@ -1,5 +1,5 @@
 use Rattle.std.proofs.Common.{◌≡◌, ◌≤◌, take}
-use Rattle.protobuf_parse_model.specs.Tables.{times}
+use Rattle.protobuf_parse_model.specs.TableParts.{times}
 use Rattle.protobuf_parse_model.proofs.linking.times.Given as goal
 
 abbrev pub invariant-loop-declaration : goal.invariant-loop-declaration

@@ -1,5 +1,5 @@
 use Rattle.std.proofs.Common.{◌≡◌, ◌+◌, drop}
-use Rattle.protobuf_parse_model.specs.Tables.{times}
+use Rattle.protobuf_parse_model.specs.TableParts.{times}
 use Rattle.protobuf_parse_model.proofs.linking.times_by_file.Given as goal
 
 abbrev pub invariant-loop-file : goal.invariant-loop-file

@@ -1,6 +1,7 @@
 use Rattle.std.proofs.Common.{◌+◌, ◌∙◌, ap, drop, sym}
 use Rattle.std.specs.Option.{option_or}
-use Rattle.protobuf_parse_model.specs.SeenFiles.{first_kind, first_type}
+use Rattle.protobuf_parse_model.specs.SeenFiles.{first_type}
+use Rattle.protobuf_parse_model.specs.SeenParts.{first_kind}
 use Rattle.protobuf_parse_model.proofs.FileOrder.{first_next, first_of_none}
 use Rattle.protobuf_parse_model.proofs.scope.first_by_file.Goals as goal
 

@@ -1,5 +1,5 @@
 use Rattle.std.proofs.Common.{◌≡◌, drop}
-use Rattle.protobuf_parse_model.specs.SeenFiles.{first_kind}
+use Rattle.protobuf_parse_model.specs.SeenParts.{first_kind}
 use Rattle.protobuf_parse_model.proofs.scope.first_kind.Given as goal
 
 abbrev pub invariant-loop-declaration : goal.invariant-loop-declaration

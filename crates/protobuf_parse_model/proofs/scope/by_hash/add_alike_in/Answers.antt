@@ -1,5 +1,5 @@
 use Rattle.std.proofs.Common.{string_bytes, subst}
-use Rattle.protobuf_parse_model.specs.ByHash.{IsWith}
+use Rattle.protobuf_parse_model.specs.AddsByHash.{IsWith}
 use Rattle.protobuf_parse_model.proofs.ByHash.{adds_alike}
 use Rattle.protobuf_parse_model.proofs.scope.by_hash.add_alike_in.Goals as goal
 

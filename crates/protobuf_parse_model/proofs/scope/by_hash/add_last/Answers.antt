@@ -4,7 +4,7 @@ use Rattle.std.specs.Global.{Vec}
 use Rattle.std.specs.BTreeMap.{get_by_text}
 use Rattle.std.specs.BTreeMap.Entry.{map_with_value}
 use Rattle.protobuf_parse_model.specs.declared.scope.seen.Declaration.{Declaration}
-use Rattle.protobuf_parse_model.specs.FileOrder.{listed}
+use Rattle.protobuf_parse_model.specs.ByHash.{listed}
 use Rattle.protobuf_parse_model.proofs.Tables.{put_last}
 use Rattle.protobuf_parse_model.proofs.scope.by_hash.add_last.Goals as goal
 

@@ -2,7 +2,7 @@ use Rattle.std.proofs.Common.{◌∙◌, ◌++◌, ap, string_bytes}
 use Rattle.std.specs.Prelude.{Some}
 use Rattle.std.proofs.lemmas.Result.{IfOk-weaker}
 use Rattle.protobuf_parse_model.specs.declared.scope.seen.OneHash.TheVariants.{Name, Names}
-use Rattle.protobuf_parse_model.specs.ByHash.{IsWith}
+use Rattle.protobuf_parse_model.specs.AddsByHash.{IsWith}
 use Rattle.protobuf_parse_model.proofs.ByHash.{one_more, only_listed}
 use Rattle.protobuf_parse_model.proofs.scope.by_hash.with_name.Goals as goal
 

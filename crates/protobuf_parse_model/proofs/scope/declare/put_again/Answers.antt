@@ -7,7 +7,7 @@ use Rattle.protobuf_parse_model.specs.declared.scope.seen.OneHash.{OneHash}
 use Rattle.protobuf_parse_model.specs.Descriptors.{Text}
 use Rattle.protobuf_parse_model.specs.FileOrder.{FilesAscend}
 use Rattle.protobuf_parse_model.specs.SeenFiles.{declared_as}
-use Rattle.protobuf_parse_model.specs.Tables.{ListsOne}
+use Rattle.protobuf_parse_model.specs.TableParts.{ListsOne}
 use Rattle.protobuf_parse_model.proofs.Tables.{adds_one}
 use Rattle.protobuf_parse_model.proofs.scope.declare.put_again.Goals as goal
 
