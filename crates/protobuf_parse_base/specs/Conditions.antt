@@ -2,7 +2,8 @@
 -- Readers of parts that stand under a condition, and of parts joined from them.
 use Rattle.std.proofs.Common.{◌≡◌, List, [], ◌∷◌, ◌++◌, Option, Some, None, Bool, true, false, ◌&&◌}
 use Rattle.std.proofs.Common.{◌||◌, cond, refl, sym, ap, ◌∙◌}
-use Rattle.protobuf_parse_base.specs.Relations.{Optional, OneOrMore, Separated, Meant, Only, Unless}
+use Rattle.protobuf_parse_base.specs.Relations.{OneOrMore, Separated, Unless}
+use Rattle.protobuf_parse_base.specs.Restrictions.{Optional, Meant, Only}
 use Rattle.protobuf_parse_base.specs.Relations.{BeginsOtherwise, At}
 use Rattle.protobuf_parse_base.specs.Readers.{Rest, end, token, onto, next, Read, read, stuck}
 use Rattle.protobuf_parse_base.specs.Readers.{wrong, deep, bind, bind_read, bind_deep, read_parts}

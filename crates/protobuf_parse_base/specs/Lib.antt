@@ -17,3 +17,4 @@ pub mod Pairs
 pub mod Whole
 pub mod Loops
 pub mod Multimaps
+pub mod Restrictions

@@ -3,8 +3,10 @@
 -- one depth and of what they are at the next, with what one level more changes.
 use Rattle.std.proofs.Common.{◌≡◌, ℕ, zero, suc, ◌≤◌, List, [], ◌∷◌, Option, Some, None, Bool, true}
 use Rattle.std.proofs.Common.{false, refl, inl, inr, arith}
-use Rattle.protobuf_parse_base.specs.Relations.{Rel, Nothing, Then, Either, Many, Optional}
-use Rattle.protobuf_parse_base.specs.Relations.{Separated, Unless, Only, Meant, At, Level}
+use Rattle.protobuf_parse_base.specs.Relations.{Rel, Nothing, Then, Either, Many}
+use Rattle.protobuf_parse_base.specs.Restrictions.{Optional}
+use Rattle.protobuf_parse_base.specs.Relations.{Separated, Unless, At, Level}
+use Rattle.protobuf_parse_base.specs.Restrictions.{Only, Meant}
 use Rattle.protobuf_parse_base.specs.Combinators as reader
 use Rattle.protobuf_parse_base.specs.Readers as read
 use Rattle.protobuf_parse_base.specs.Readers.{Rest, Read, deep, Lexicon, Shape, shape, Reader, size}

@@ -2,8 +2,7 @@
 -- written with them as do-blocks, a line of which is a part of the production: what stands first,
 -- and then the rest.
 use Rattle.std.specs.Prelude.{◌≡◌, ℕ, zero, suc, List, [], ◌∷◌, ◌++◌, Option, Some, None, Bool}
-use Rattle.std.specs.Prelude.{true, false, ◌⊎◌}
-use Rattle.std.proofs.Common.{◌||◌}
+use Rattle.std.specs.Prelude.{false, ◌⊎◌, ◌||◌}
 
 abbrev pub Rel : Type 0 → Type 0 → Type 1
 Rel Tok A = List Tok → A → Type 0
@@ -46,10 +45,6 @@ R >> S = Then R (λ a. S)
 abbrev pub Either : {Tok A : Type 0} → Rel Tok A → Rel Tok A → Rel Tok A
 Either R S ts a = R ts a ⊎ S ts a
 
--- such a part, or nothing
-abbrev pub Optional : {Tok A : Type 0} → Rel Tok A → Rel Tok (Option A)
-Optional R = Either (do a ← R; Nothing (Some a)) (Nothing None)
-
 -- any number of such parts, one after the other
 pub data Many {Tok A : Type 0} (R : List Tok → A → Type 0) : List Tok → List A → Type 0 where
   none : Many R [] []
@@ -63,14 +58,6 @@ OneOrMore R = do first ← R; others ← Many R; Nothing (first ∷ others)
 -- one or more such parts with a separator between each two
 abbrev pub Separated : {Tok A B : Type 0} → Rel Tok B → Rel Tok A → Rel Tok (List A)
 Separated S R = do first ← R; others ← Many (do S; R); Nothing (first ∷ others)
-
--- what a part says means the value
-abbrev pub Meant : {Tok A B : Type 0} → Rel Tok A → (A → Option B) → Rel Tok B
-Meant {A = A} R means ts b = (a : A) × R ts a × (means a ≡ Some b)
-
--- a part that may stand only where b is true
-abbrev pub Only : {Tok A : Type 0} → Bool → Rel Tok A → Rel Tok A
-Only b R ts a = (b ≡ true) × R ts a
 
 -- no first token, or one that fails the test
 abbrev pub BeginsOtherwise : {Tok : Type 0} → (Tok → Bool) → List Tok → Type 0

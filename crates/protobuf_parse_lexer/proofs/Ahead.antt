@@ -111,10 +111,6 @@ counted_ge : (b : Bool) (n : ℕ) → n ≤ counted b n
 counted_ge true n = omega arith
 counted_ge false n = omega arith
 
-pub counted_le : (b : Bool) (n : ℕ) → counted b n ≤ n + 1
-counted_le true n = omega arith
-counted_le false n = omega arith
-
 shallow_here : (o c : ℕ) (t : Lexeme) (ts : List Lexeme) → ShallowFrom o c (t ∷ ts)
     → deepens o c t.kind ≡ false
 shallow_here o c t ts is =

@@ -9,7 +9,7 @@ use Rattle.protobuf_parse_lexer.specs.Scan.{is_no_backslash}
 use Rattle.protobuf_parse_lexer.specs.Text.{Bytes, is_in, AllIn}
 use Rattle.protobuf_parse_lexer.specs.Tokens.{IsEscape, Decodes, done, plain, escape, DecodesAll}
 use Rattle.protobuf_parse_lexer.specs.Tokens.{none, piece}
-use Rattle.protobuf_parse_lexer.specs.Decoding.{HasNoEscape, IsPart}
+use Rattle.protobuf_parse_lexer.specs.PieceParts.{HasNoEscape, IsPart}
 use Rattle.protobuf_parse_lexer.specs.Escapes.{one_escape}
 use Rattle.protobuf_parse_lexer.specs.declared.lexer.bytes.ByteClass.{ByteClass}
 

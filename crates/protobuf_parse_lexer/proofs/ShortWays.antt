@@ -1,7 +1,8 @@
 -- What the short ways past blanks and tokens find at the front of a text.
-use Rattle.std.proofs.Common.{◌≡◌, ◌≢◌, ℕ, zero, suc, ◌+◌, ◌-◌, ◌*◌, ◌<◌, ◌≤◌, ◌^◌, true, false, [], ◌∷◌}
+use Rattle.std.proofs.Common.{◌≡◌, ◌≢◌, ℕ, zero, suc, ◌+◌, ◌-◌, ◌*◌, ◌<◌, ◌≤◌, ◌^◌, true, false, []}
+use Rattle.std.proofs.Common.{◌∷◌}
 use Rattle.std.proofs.Common.{length, take, drop, slice_index, refl, sym, ap, ◌∙◌, subst, arith}
-use Rattle.std.proofs.Common.{eqb, nat_le, nat_lt, ◌||◌, get_or-take, length-take}
+use Rattle.std.proofs.Common.{eqb, nat_le, nat_lt, ◌||◌}
 use Rattle.std.proofs.Common.{inl, inr, ◌⊎◌, IsUtf8}
 use Rattle.std.specs.Char as char
 use Rattle.std.specs.Prelude.{slice_range}
@@ -18,7 +19,7 @@ use Rattle.protobuf_parse_lexer.specs.Scan.{BeginsNumber, IsPlaceBefore, Stands}
 use Rattle.protobuf_parse_lexer.specs.Scan.{begins_line_comment}
 use Rattle.protobuf_parse_lexer.specs.Text.{Bytes, is_in, AllIn, RunStopsAt, IsBlank, IsDecimal}
 use Rattle.protobuf_parse_lexer.specs.Text.{IsFloat, IsLetterE, IsLongest, IsNumberText}
-use Rattle.protobuf_parse_lexer.specs.Text.{IsToken, IsLine, IsQuote, is_symbol}
+use Rattle.protobuf_parse_lexer.specs.Text.{IsToken, IsQuote, is_symbol}
 use Rattle.protobuf_parse_lexer.specs.Total.{total, true_or_false}
 use Rattle.protobuf_parse_lexer.specs.declared.lexer.bytes.ByteClass.TheVariants as class
 use Rattle.protobuf_parse_lexer.specs.declared.lexer.front.Piece.{Piece}
@@ -75,37 +76,12 @@ blanks_step o c p at z rest (suc n) within each stops f g =
 
 -- ---- comments before a line feed
 
-slash_no_blank : (b : ℕ) → b ≡ 47 → is_in class.Blank b ≡ true → ⊥
-slash_no_blank b e h = false≢true (subst (λ x. is_in class.Blank x ≡ true) e h)
-
 line_byte : (b : ℕ) → is_in class.Line b ≡ true → eqb b 10 ≡ false
 line_byte b h = grind (arith, nat_tests)
-
-slash_in_line : (b : ℕ) → b ≡ 47 → is_in class.Line b ≡ true
-slash_in_line b e = rw e refl
-
-line_each : (z : Bytes) (n : ℕ) → IsLine z n → AllIn class.Line z 0 n
-line_each z n l zero from less = slash_in_line (slice_index z 0) l.first
-line_each z n l (suc zero) from less = slash_in_line (slice_index z 1) l.second
-line_each z n l (suc (suc k)) from less = l.each (suc (suc k)) (omega arith) less
 
 slashes : (z : Bytes) → begins_line_comment z ≡ true
     → (slice_index z 0 ≡ 47) × (slice_index z 1 ≡ 47)
 slashes z h = grind (arith, nat_tests)
-
--- only the comment to the end of a line begins so, and has no line feed
-pub line_comment : (z : Bytes) (n : ℕ) → IsBlank z n → begins_line_comment (take n z) ≡ true
-    → AllIn class.Line (take n z) 0 (length (take n z))
-line_comment z n (inl s) begins =
-    let first = sym (get_or-take n z 0 0 s.some) ∙ (slashes (take n z) begins).0 in
-    absurd (slash_no_blank (slice_index z 0) first (s.each 0 (omega arith) s.some))
-line_comment z n (inr (inl l)) begins = λ k from less.
-    let within : k < n = omega (arith, length-take n z) in
-    ap (is_in class.Line) (get_or-take n z k 0 within) ∙ line_each z n l k from within
-line_comment z n (inr (inr b)) begins =
-    let second = sym (get_or-take n z 1 0 (omega (arith, b.some)))
-    ∙ (slashes (take n z) begins).1 in
-    absurd (omega (arith, sym b.second ∙ second))
 
 same_step : (p : Place) (b : ℕ) → eqb b 10 ≡ false → (step p b).line ≡ p.line
 same_step p b other =

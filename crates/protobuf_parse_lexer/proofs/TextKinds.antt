@@ -100,13 +100,6 @@ by_none : (all fits : Bool) (d : ℕ) → all ≡ false
     → (if all && fits then kind.Integer d else kind.Float) ≡ kind.Float
 by_none all fits d h = rw h refl
 
-by_large : (all : Bool) (d : ℕ) → (d < 2 ^ 64 → ⊥)
-    → (if all && nat_lt d (2 ^ 64) then kind.Integer d else kind.Float) ≡ kind.Float
-by_large true d h =
-    let large : nat_lt d (2 ^ 64) ≡ false = not_true _ (λ e. h (grind (arith, nat_tests, e))) in
-    rw large refl
-by_large false d h = refl
-
 all_each : (test : ℕ → Bool) (ds : Bytes)
     → ((k : ℕ) → k < length ds → test (get_or ds k 0) ≡ true) → list_all test ds ≡ true
 all_each test [] h = refl
@@ -171,10 +164,6 @@ not_one n h = grind (arith, nat_tests)
 
 pub and_both : (a b : Bool) → a ≡ true → b ≡ true → (a && b) ≡ true
 and_both a b p q = rw (p, q) refl
-
-and_no : (a b : Bool) → b ≡ false → (a && b) ≡ false
-and_no true b q = q
-and_no false b q = refl
 
 x_seen : (b : ℕ) → (b ≡ 120) ⊎ (b ≡ 88) → (eqb b 120 || eqb b 88) ≡ true
 x_seen b (inl e) = rw e refl
@@ -418,10 +407,6 @@ either : (test : TokenKind → Bool) (a : Bool) (d : ℕ) → test (kind.Integer
     → test kind.Float ≡ false → test (if a then kind.Integer d else kind.Float) ≡ false
 either test true d i f = i
 either test false d i f = f
-
-and_yes : (a : Bool) → (a && true) ≡ a
-and_yes true = refl
-and_yes false = refl
 
 number_tested : (test : TokenKind → Bool)
     → ((c : ByteClass) (r : ℕ) (ds : Bytes) → test (integer_kind c r ds) ≡ false) → (z x : Bool)

@@ -68,15 +68,6 @@ error_place e = record { line = e.line; col = e.col }
 abbrev pub out_of_memory : ParserErrorWithLocation
 out_of_memory = record { error = error.Memory; line = 0; col = 0 }
 
--- what a cut gives, of which the nesting is not looked at: a whole cut, want of memory, or a cut up
--- to a fault
-abbrev pub Answers : Bytes → Result TokenStream ParserErrorWithLocation → Type 0
-Answers text r =
-    MatchResult r (λ s. Cuts text (map lexeme s.tokens.items) s.end [])
-    (λ e. (e ≡ out_of_memory)
-    ⊎ ((ts : List Lexeme) × (rest : Bytes) × Cuts text ts (error_place e) rest
-    × IsFault rest e.error))
-
 -- a text with tokens is read as them, unless memory runs out
 abbrev pub Reads : Bytes → Result TokenStream ParserErrorWithLocation → Type 0
 Reads text r =

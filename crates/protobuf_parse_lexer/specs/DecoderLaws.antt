@@ -15,8 +15,9 @@ use Rattle.std.specs.Str.{IsUtf8, is_utf8}
 use Rattle.std.specs.Str.Parse.{digits_value}
 use Rattle.protobuf_parse_base.specs.Characters as char
 use Rattle.protobuf_parse_base.specs.Readers.{and_left, and_right, false_by}
-use Rattle.protobuf_parse_lexer.specs.Decoding.{NamesByte, NamesNoByte, NamesChar, NamesNoChar}
-use Rattle.protobuf_parse_lexer.specs.Decoding.{HasEscape, HasNoEscape, IsPart, HasPart, HasNoPart}
+use Rattle.protobuf_parse_lexer.specs.PieceParts.{NamesByte, NamesNoByte, NamesChar, NamesNoChar}
+use Rattle.protobuf_parse_lexer.specs.PieceParts.{HasEscape, HasNoEscape, IsPart, HasPart}
+use Rattle.protobuf_parse_lexer.specs.PieceParts.{HasNoPart}
 use Rattle.protobuf_parse_lexer.specs.Decoding.{meaning_bytes}
 use Rattle.protobuf_parse_lexer.specs.Text.{Bytes, is_in, AllIn, RunStopsAt}
 use Rattle.protobuf_parse_lexer.specs.Tokens.{letter_byte, IsDigits, IsEscape, letter, Decodes}

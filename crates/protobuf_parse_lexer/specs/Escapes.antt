@@ -13,8 +13,8 @@ use Rattle.protobuf_parse_base.specs.Characters as char
 use Rattle.protobuf_parse_lexer.specs.Text.{Bytes, is_in, AllIn}
 use Rattle.protobuf_parse_lexer.specs.Tokens.{letter_byte, IsDigits, IsEscape, letter, octal, hex}
 use Rattle.protobuf_parse_lexer.specs.Tokens.{short, long}
-use Rattle.protobuf_parse_lexer.specs.Decoding.{NamesByte, NamesNoByte, NamesChar, NamesNoChar}
-use Rattle.protobuf_parse_lexer.specs.Decoding.{HasEscape, HasNoEscape, HasPart, HasNoPart}
+use Rattle.protobuf_parse_lexer.specs.PieceParts.{NamesByte, NamesNoByte, NamesChar, NamesNoChar}
+use Rattle.protobuf_parse_lexer.specs.PieceParts.{HasEscape, HasNoEscape, HasPart, HasNoPart}
 use Rattle.protobuf_parse_lexer.specs.declared.lexer.bytes.ByteClass.{ByteClass}
 use Rattle.protobuf_parse_lexer.specs.declared.lexer.bytes.ByteClass.TheVariants as class
 use Rattle.protobuf_parse_lexer.specs.declared.lexer.str_lit.Part.{Part}

@@ -16,7 +16,8 @@ use Rattle.protobuf_parse_lexer.specs.Escapes.{chosen}
 use Rattle.protobuf_parse_lexer.specs.Text.{Bytes, is_in, AllIn, RunStopsAt, IsQuote, IsIdentText}
 use Rattle.protobuf_parse_lexer.specs.Text.{IsString, IsDecimal, IsHex, IsOctal, IsLetterE}
 use Rattle.protobuf_parse_lexer.specs.Text.{IsExponent, IsFloat, IsNumberText, IsIntegerText}
-use Rattle.protobuf_parse_lexer.specs.Text.{IsLiteral, IsLongest, Longest, NoFront, is_rest}
+use Rattle.protobuf_parse_lexer.specs.Text.{IsLiteral, IsLongest, NoFront, is_rest}
+use Rattle.protobuf_parse_lexer.specs.Longest.{Longest}
 use Rattle.protobuf_parse_lexer.specs.Text.{is_empty}
 
 -- more digits spell no less

@@ -16,3 +16,6 @@ pub mod Ahead
 pub mod AheadOf
 pub mod AheadViews
 pub mod Tokenizers
+pub mod CutAnswers
+pub mod PieceParts
+pub mod Longest

@@ -180,10 +180,6 @@ IsNumberText z n = IsDecimal z n ⊎ IsHex z n ⊎ IsOctal z n ⊎ IsFloat z n
 abbrev pub IsLiteral : Bytes → ℕ → Type 0
 IsLiteral z n = IsIdentText z n ⊎ IsString z n ⊎ IsNumberText z n
 
--- the longest front that is so, and that no front is
-abbrev pub Longest : (Bytes → ℕ → Type 0) → Bytes → ℕ → Type 0
-Longest Is z n = Is z n × ((m : ℕ) → Is z m → m ≤ n)
-
 abbrev pub NoFront : (Bytes → ℕ → Type 0) → Bytes → Type 0
 NoFront Is z = (m : ℕ) → Is z m → ⊥
 

@@ -16,7 +16,8 @@ use Rattle.protobuf_parse_lexer.specs.Scan.{closing, EndsFraction, BeginsNumber,
 use Rattle.protobuf_parse_lexer.specs.Text.{Bytes, is_in, AllIn, RunStopsAt, Closes, IsBlock}
 use Rattle.protobuf_parse_lexer.specs.Text.{IsQuote, IsString, IsDecimal, IsHex, IsOctal}
 use Rattle.protobuf_parse_lexer.specs.Text.{IsLetterE, IsSign, IsExponent, IsFloat, IsIntegerText}
-use Rattle.protobuf_parse_lexer.specs.Text.{IsLiteral, IsLongest, Longest, NoFront, HasNoComment}
+use Rattle.protobuf_parse_lexer.specs.Text.{IsLiteral, IsLongest, NoFront, HasNoComment}
+use Rattle.protobuf_parse_lexer.specs.Longest.{Longest}
 use Rattle.protobuf_parse_lexer.specs.Text.{IsIdentText, is_symbol}
 use Rattle.protobuf_parse_lexer.specs.Front.{quote_is_no_ident, begins_no_quote, number_first}
 use Rattle.protobuf_parse_lexer.specs.Front.{number_from_integer, long_ident, long_string}

@@ -2,7 +2,8 @@
 
 ghost use Rattle.std.specs.Prelude.{◌≡◌, ◌⊎◌, ◌+◌, length, drop, IfOk, IfErr};
 ghost use Rattle.protobuf_parse_lexer.specs.Cut.{mark_len, IsShort, stream, HasTokens, IsRefused};
-ghost use Rattle.protobuf_parse_lexer.specs.Cut.{Answers, Reads, Refuses, error_place};
+ghost use Rattle.protobuf_parse_lexer.specs.Cut.{Reads, Refuses, error_place};
+ghost use Rattle.protobuf_parse_lexer.specs.CutAnswers.{Answers};
 ghost use Rattle.protobuf_parse_lexer.specs.Cut.{out_of_memory};
 
 pub mod bytes;

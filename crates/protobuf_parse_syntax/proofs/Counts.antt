@@ -8,7 +8,8 @@ use Rattle.protobuf_parse_syntax.specs.Trees as tree
 use Rattle.protobuf_parse_syntax.specs.Trees.{FieldStatementSyntax}
 use Rattle.protobuf_parse_syntax.specs.Trees.{MessageStatementSyntax}
 use Rattle.protobuf_parse_syntax.specs.Trees.{StatementSyntax}
-use Rattle.protobuf_parse_syntax.specs.Trees.{message_statement_syntax, message_syntax}
+use Rattle.protobuf_parse_syntax.specs.Trees.{message_syntax}
+use Rattle.protobuf_parse_syntax.specs.InnerViews.{message_statement_syntax}
 use Rattle.protobuf_parse_syntax.specs.Trees.{statement_syntax}
 use Rattle.protobuf_parse_syntax.specs.Counts.{field_count, in_group}
 use Rattle.protobuf_parse_syntax.specs.Counts.{message_statement_count, in_body, in_message}

@@ -1,6 +1,7 @@
 -- What the views of types and fields say of each variant.
 use Rattle.std.proofs.Common.{◌≡◌, ap, sym, ◌∙◌, String, string_bytes, Global}
 use Rattle.protobuf_parse_syntax.specs.Trees as tree
+use Rattle.protobuf_parse_syntax.specs.InnerViews.{group_syntax}
 use Rattle.protobuf_parse_syntax.specs.Trees.{TypeSyntax, FieldStatementSyntax, GroupSyntax}
 use Rattle.protobuf_parse_syntax.specs.declared.tree.field.Type.{fold-roll-Type}
 use Rattle.protobuf_parse_syntax.specs.declared.tree.field.Type.TheOpen as type_layer
@@ -24,12 +25,12 @@ views_plain f = ap tree.field_statement_syntax (sym (statement.rolls-Field f))
 
 views_inner : (g : Group)
     → fold-Group FieldStatementSyntax GroupSyntax tree.field_statement_step tree.group_step g
-    ≡ tree.group_syntax g
+    ≡ group_syntax g
 views_inner g =
     fold_out-Group FieldStatementSyntax GroupSyntax tree.field_statement_step tree.group_step g
 
 pub views_group : (g : Group)
-    → tree.field_statement_syntax (statement.Group g) ≡ tree.group_of (tree.group_syntax g)
+    → tree.field_statement_syntax (statement.Group g) ≡ tree.group_of (group_syntax g)
 views_group g = ap tree.field_statement_syntax (sym (statement.rolls-Group g))
     ∙ fold-roll-FieldStatement FieldStatementSyntax GroupSyntax tree.field_statement_step
     tree.group_step (statement_layer.Group g) ∙ ap tree.group_of (views_inner g)

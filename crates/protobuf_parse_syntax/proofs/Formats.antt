@@ -15,10 +15,11 @@ use Rattle.protobuf_parse_lexer.specs.Text.{Bytes}
 use Rattle.protobuf_parse_lexer.specs.declared.lexer.str_lit.StrLit.{StrLit}
 use Rattle.protobuf_parse_syntax.specs.Formats.{truth_word, escape_before, quotes_escaped}
 use Rattle.protobuf_parse_syntax.specs.Formats.{string_text, format, formats, all_fields_text}
-use Rattle.protobuf_parse_syntax.specs.Formats.{constant_field_text, list_text, message_text}
+use Rattle.protobuf_parse_syntax.specs.ListTexts.{constant_field_text, list_text, message_text}
 use Rattle.protobuf_parse_syntax.specs.Trees.{ConstantSyntax, truth, ConstantFieldSyntax, constants}
 use Rattle.protobuf_parse_syntax.specs.Trees.{constant_fields, constant_step, constant_field_step}
-use Rattle.protobuf_parse_syntax.specs.Trees.{constant_syntax, constant_field_syntax, pieces_of}
+use Rattle.protobuf_parse_syntax.specs.Trees.{constant_syntax, pieces_of}
+use Rattle.protobuf_parse_syntax.specs.InnerViews.{constant_field_syntax}
 use Rattle.protobuf_parse_syntax.specs.declared.tree.constant.ConstantField.{ConstantField}
 use Rattle.protobuf_parse_syntax.specs.declared.tree.constant.ProtobufConstant.{ProtobufConstant}
 use Rattle.protobuf_parse_syntax.specs.declared.tree.constant.ProtobufConstant.{fold-roll-ProtobufConstant}

@@ -6,7 +6,7 @@ use Rattle.std.proofs.lemmas.List.{map-append, length-map, length-append}
 use Rattle.protobuf_parse_syntax.specs.Dependencies.{imported, imports, is_public, is_weak}
 use Rattle.protobuf_parse_syntax.specs.Dependencies.{position_if, positions, FileImports}
 use Rattle.protobuf_parse_syntax.specs.Dependencies.{imports_of, dependencies_of, dependencies_view}
-use Rattle.protobuf_parse_syntax.specs.Dependencies.{with_import, with_statement}
+use Rattle.protobuf_parse_syntax.specs.ImportSteps.{with_import, with_statement}
 use Rattle.protobuf_parse_syntax.specs.Trees.{ImportSyntax, StatementSyntax, file_import}
 use Rattle.protobuf_parse_syntax.specs.Trees.{file_package, file_option, file_message, file_enum}
 use Rattle.protobuf_parse_syntax.specs.Trees.{file_extend, file_service}

@@ -2,6 +2,7 @@
 use Rattle.std.proofs.Common.{◌≡◌, ℕ, ℤ, pos, Vec, map, ap, sym, ◌∙◌, String, string_bytes, Global}
 use Rattle.protobuf_parse_lexer.specs.declared.lexer.str_lit.StrLit.{StrLit}
 use Rattle.protobuf_parse_syntax.specs.Trees as tree
+use Rattle.protobuf_parse_syntax.specs.InnerViews.{constant_field_syntax}
 use Rattle.protobuf_parse_syntax.specs.Trees.{ConstantSyntax, ConstantFieldSyntax}
 use Rattle.protobuf_parse_syntax.specs.declared.tree.constant.ConstantField.{ConstantField}
 use Rattle.protobuf_parse_syntax.specs.declared.tree.constant.ConstantField.{fold-ConstantField}
@@ -52,14 +53,14 @@ views_list v = ap tree.constant_syntax (sym (rolls-List v))
 
 views_field : (f : ConstantField)
     → fold-ConstantField ConstantSyntax ConstantFieldSyntax tree.constant_step
-    tree.constant_field_step f ≡ tree.constant_field_syntax f
+    tree.constant_field_step f ≡ constant_field_syntax f
 views_field f =
     fold_out-ConstantField ConstantSyntax ConstantFieldSyntax tree.constant_step
     tree.constant_field_step f
 
 pub views_fields : (v : Vec ConstantField Global)
     → tree.constant_syntax (Fields v)
-    ≡ tree.fields (tree.constant_fields (map tree.constant_field_syntax v.items))
+    ≡ tree.fields (tree.constant_fields (map constant_field_syntax v.items))
 views_fields v = ap tree.constant_syntax (sym (rolls-Message v))
     ∙ fold-roll-ProtobufConstant ConstantSyntax ConstantFieldSyntax tree.constant_step
     tree.constant_field_step (layer.Message v)

@@ -1,5 +1,5 @@
 -- What a file imports.
-use Rattle.std.specs.Prelude.{ℕ, ◌+◌, ℤ, pos, Bool, true, false, List, [], ◌∷◌, ◌++◌, length, map}
+use Rattle.std.specs.Prelude.{ℕ, ◌+◌, ℤ, pos, Bool, true, false, List, [], ◌∷◌, ◌++◌, map}
 use Rattle.std.specs.Prelude.{flat_map, string_bytes, if◌then◌else◌}
 use Rattle.protobuf_parse_lexer.specs.Text.{Bytes}
 use Rattle.protobuf_parse_syntax.specs.Trees.{ImportSyntax, StatementSyntax, file_import}
@@ -55,16 +55,3 @@ dependencies_view d = record {
   public = d.public_dependency.items;
   weak = d.weak_dependency.items;
 }
-
--- one import more, behind the others
-abbrev pub with_import : FileImports → ImportSyntax → FileImports
-with_import found i = record {
-  paths = found.paths ++ i.path ∷ [];
-  public = found.public ++ position_if (is_public i.vis) (length found.paths);
-  weak = found.weak ++ position_if (is_weak i.vis) (length found.paths);
-}
-
--- one statement more
-abbrev pub with_statement : FileImports → StatementSyntax → FileImports
-with_statement found (file_import i) = with_import found i
-with_statement found _ = found

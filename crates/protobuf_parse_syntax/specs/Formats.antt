@@ -6,7 +6,7 @@
 -- where the value is a message, and then `}`. The name of an extension and a type URL stand in
 -- brackets.
 use Rattle.std.specs.Prelude.{ℕ, ◌==◌, ◌&&◌, Bool, true, false, not, List, [], ◌∷◌, ◌++◌, map}
-use Rattle.std.specs.Prelude.{flat_map, codes, if◌then◌else◌}
+use Rattle.std.specs.Prelude.{codes, if◌then◌else◌}
 use Rattle.std.specs.Fmt.{signed_decimal}
 use Rattle.std.specs.List.{join_with_byte}
 use Rattle.protobuf_parse_base.specs.Characters as char
@@ -15,7 +15,7 @@ use Rattle.protobuf_parse_syntax.specs.Trees.{Pieces, ConstantNameSyntax, regula
 use Rattle.protobuf_parse_syntax.specs.Trees.{extension_name, url_name, ConstantSyntax, integer}
 use Rattle.protobuf_parse_syntax.specs.Trees.{truth, dotted, string, list, fields, ConstantList}
 use Rattle.protobuf_parse_syntax.specs.Trees.{no_constants, more_constants, ConstantFieldList}
-use Rattle.protobuf_parse_syntax.specs.Trees.{no_fields, more_fields, ConstantFieldSyntax}
+use Rattle.protobuf_parse_syntax.specs.Trees.{no_fields, more_fields}
 
 abbrev pub truth_word : Bool → Bytes
 truth_word true = codes "true"
@@ -70,16 +70,3 @@ unfoldable mutual
   pub all_fields_text : ConstantFieldList → Bytes
   all_fields_text no_fields = []
   all_fields_text (more_fields n v fs) = field_text n v (format v) ++ all_fields_text fs
-
-abbrev pub constant_field_text : ConstantFieldSyntax → Bytes
-constant_field_text f = field_text f.name f.value (format f.value)
-
--- the same over lists
-abbrev pub items_text : List ConstantSyntax → Bytes
-items_text cs = join_with_byte char.comma (map format cs)
-
-abbrev pub list_text : List ConstantSyntax → Bytes
-list_text cs = codes "[" ++ items_text cs ++ codes "]"
-
-abbrev pub message_text : List ConstantFieldSyntax → Bytes
-message_text fs = codes "{ " ++ flat_map constant_field_text fs ++ codes "}"

@@ -15,3 +15,6 @@ pub mod Nested
 pub mod Words
 pub mod Fields
 pub mod Code
+pub mod ImportSteps
+pub mod ListTexts
+pub mod InnerViews

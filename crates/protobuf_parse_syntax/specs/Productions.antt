@@ -5,7 +5,8 @@ use Rattle.std.proofs.Common.{Bool, true, false, ◌||◌, cond, bytes_eq, slice
 use Rattle.std.proofs.Common.{sym, ap, ◌∙◌}
 use Rattle.std.proofs.lemmas.List.{append-nil}
 use Rattle.protobuf_parse_base.specs.Characters as char
-use Rattle.protobuf_parse_base.specs.Relations.{Rel, Then, Nothing, Either, One, Separated, Meant}
+use Rattle.protobuf_parse_base.specs.Relations.{Rel, Then, Nothing, Either, One, Separated}
+use Rattle.protobuf_parse_base.specs.Restrictions.{Meant}
 use Rattle.protobuf_parse_base.specs.Relations.{Unless}
 use Rattle.protobuf_parse_base.specs.Readers.{Rest, end, token, read, bind, starts}
 use Rattle.protobuf_parse_base.specs.Combinators.{run_many}

@@ -6,7 +6,8 @@ use Rattle.std.proofs.Common.{◌≡◌, ◌≤◌, ℕ, suc, List, [], ◌∷�
 use Rattle.std.proofs.Common.{true, false, cond, refl, sym, ap, subst, ◌∙◌, inl, inr, arith}
 use Rattle.std.proofs.lemmas.List.{append-nil}
 use Rattle.protobuf_parse_base.specs.Relations.{Rel, Nothing, Such, Never, Either, Many, none, more}
-use Rattle.protobuf_parse_base.specs.Relations.{Meant, ◌>>=◌}
+use Rattle.protobuf_parse_base.specs.Relations.{◌>>=◌}
+use Rattle.protobuf_parse_base.specs.Restrictions.{Meant}
 use Rattle.protobuf_parse_base.specs.Readers.{Rest, end, token, onto, Read, read, stuck, wrong}
 use Rattle.protobuf_parse_base.specs.Readers.{Lexicon, Shape, shape, Sound, Reader, LocalAt}
 use Rattle.protobuf_parse_base.specs.Readers.{LocalStuck, starts, deep}

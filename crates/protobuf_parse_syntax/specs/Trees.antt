@@ -18,7 +18,6 @@ use Rattle.protobuf_parse_syntax.specs.declared.tree.constant.ProtobufConstant.{
 use Rattle.protobuf_parse_syntax.specs.declared.tree.constant.ProtobufConstant.{fold-ProtobufConstant}
 use Rattle.protobuf_parse_syntax.specs.declared.tree.constant.ProtobufConstant.TheOpen.{ProtobufConstant-F}
 use Rattle.protobuf_parse_syntax.specs.declared.tree.constant.ProtobufConstant.TheOpen.{ConstantField-F}
-use Rattle.protobuf_parse_syntax.specs.declared.tree.constant.ConstantField.{ConstantField}
 use Rattle.protobuf_parse_syntax.specs.declared.tree.constant.ConstantFieldName.{ConstantFieldName}
 use Rattle.protobuf_parse_syntax.specs.declared.tree.constant.ConstantFieldName.TheVariants as constant_name
 use Rattle.protobuf_parse_syntax.specs.declared.tree.option.ProtobufOptionNamePart.{ProtobufOptionNamePart}
@@ -34,7 +33,6 @@ use Rattle.protobuf_parse_syntax.specs.declared.tree.field.Type.TheOpen.{Type-F}
 use Rattle.protobuf_parse_syntax.specs.declared.tree.field.Field.{Field}
 use Rattle.protobuf_parse_syntax.specs.declared.tree.field.FieldStatement.{FieldStatement}
 use Rattle.protobuf_parse_syntax.specs.declared.tree.field.FieldStatement.{fold-FieldStatement}
-use Rattle.protobuf_parse_syntax.specs.declared.tree.field.Group.{Group}
 use Rattle.protobuf_parse_syntax.specs.declared.tree.field.FieldStatement.TheOpen.{FieldStatement-F}
 use Rattle.protobuf_parse_syntax.specs.declared.tree.field.FieldStatement.TheOpen.{Group-F}
 use Rattle.protobuf_parse_syntax.specs.declared.tree.declaration.FieldNumberRange.{FieldNumberRange}
@@ -55,8 +53,6 @@ use Rattle.protobuf_parse_syntax.specs.declared.tree.declaration.Service.{Servic
 use Rattle.protobuf_parse_syntax.specs.declared.tree.declaration.ServiceStatement.{ServiceStatement}
 use Rattle.protobuf_parse_syntax.specs.declared.tree.declaration.ServiceStatement.TheVariants as service_statement
 use Rattle.protobuf_parse_syntax.specs.declared.tree.declaration.Message.{Message, fold-Message}
-use Rattle.protobuf_parse_syntax.specs.declared.tree.declaration.MessageStatement.{MessageStatement}
-use Rattle.protobuf_parse_syntax.specs.declared.tree.declaration.MessageStatement.{fold-MessageStatement}
 use Rattle.protobuf_parse_syntax.specs.declared.tree.declaration.MessageStatement.TheOpen.{MessageStatement-F}
 use Rattle.protobuf_parse_syntax.specs.declared.tree.declaration.MessageStatement.TheOpen.{Message-F}
 
@@ -129,10 +125,6 @@ constant_field_step f = record { name = constant_name_syntax f.name; value = f.v
 abbrev pub constant_syntax : ProtobufConstant → ConstantSyntax
 constant_syntax =
     fold-ProtobufConstant ConstantSyntax ConstantFieldSyntax constant_step constant_field_step
-
-abbrev pub constant_field_syntax : ConstantField → ConstantFieldSyntax
-constant_field_syntax f =
-    record { name = constant_name_syntax f.name; value = constant_syntax f.value }
 
 -- ---- options
 
@@ -243,15 +235,6 @@ field_statement_step (FieldStatement-F.Group g) = group_of g
 abbrev pub field_statement_syntax : FieldStatement → FieldStatementSyntax
 field_statement_syntax =
     fold-FieldStatement FieldStatementSyntax GroupSyntax field_statement_step group_step
-
-abbrev pub group_syntax : Group → GroupSyntax
-group_syntax g = record {
-  place = g.place;
-  label = g.label;
-  name = name_bytes g.name;
-  number = g.number;
-  fields = map field_statement_syntax g.fields.items;
-}
 
 -- ---- parts of messages and enums
 
@@ -396,10 +379,6 @@ message_statement_step (MessageStatement-F.Enumeration e) = message_enum (enum_s
 message_statement_step (MessageStatement-F.Extensions e) = message_extensions (extensions_syntax e)
 message_statement_step (MessageStatement-F.Option o) = message_option (option_statement_syntax o)
 message_statement_step (MessageStatement-F.Field f) = message_field (field_statement_syntax f)
-
-abbrev pub message_statement_syntax : MessageStatement → MessageStatementSyntax
-message_statement_syntax =
-    fold-MessageStatement MessageStatementSyntax MessageSyntax message_statement_step message_step
 
 abbrev pub message_syntax : Message → MessageSyntax
 message_syntax = fold-Message MessageStatementSyntax MessageSyntax message_statement_step

@@ -3,7 +3,7 @@
 ghost use Rattle.std.specs.Prelude.{◌≡◌, ◌≤◌, ◌⊎◌, ◌++◌, [], ◌∷◌, length, map, IfOk, IfErr, OnOk};
 ghost use Rattle.std.specs.Prelude.{if◌then◌else◌};
 ghost use Rattle.protobuf_parse_lexer.specs.Cut.{out_of_memory, error_place as place_at};
-ghost use Rattle.protobuf_parse_syntax.specs.Dependencies as spec;
+ghost use Rattle.protobuf_parse_syntax.specs.ImportSteps as steps;
 ghost use Rattle.protobuf_parse_syntax.specs.Dependencies.{dependencies_of, dependencies_view};
 ghost use Rattle.protobuf_parse_syntax.specs.Parsing.{HasTree, IsFaultOf, TellsFaults};
 ghost use Rattle.protobuf_parse_syntax.specs.Trees.{FileSyntax, import_syntax, statement_syntax};
@@ -76,7 +76,7 @@ fn push_statement(
 ) -> Result<(), AllocError>
     requires { length found.old.dependency.items ≤ 2147483647 }
     ensures { OnOk result (dependencies_view found.new
-        ≡ spec.with_statement (dependencies_view found.old) (statement_syntax statement.now)) }
+        ≡ steps.with_statement (dependencies_view found.old) (statement_syntax statement.now)) }
 {
     match statement {
         FileStatement::Import(import) => push_import(alloc, found, import),
@@ -88,7 +88,7 @@ fn push_statement(
 fn push_import(alloc: Global, found: &mut Dependencies, import: &Import) -> Result<(), AllocError>
     requires { length found.old.dependency.items ≤ 2147483647 }
     ensures { OnOk result (dependencies_view found.new
-        ≡ spec.with_import (dependencies_view found.old) (import_syntax import.now)) }
+        ≡ steps.with_import (dependencies_view found.old) (import_syntax import.now)) }
 {
     let position = found.dependency.len() as i32;
     let public = import.vis.is_public();

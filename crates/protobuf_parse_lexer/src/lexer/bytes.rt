@@ -33,6 +33,7 @@ fn is_ident(byte: u8) -> bool
     IDENT_MAP[byte as usize] != b','
 }
 
+/// Whether the byte is one of that class.
 #[inline]
 pub fn is_in(class: ByteClass, byte: u8) -> bool
     ensures { result ≡ text.is_in class byte }

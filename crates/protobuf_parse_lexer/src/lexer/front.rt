@@ -4,7 +4,8 @@ ghost use Rattle.std.specs.Prelude.{◌≡◌, ◌<◌, ◌≤◌, length, slice
 ghost use Rattle.std.specs.Prelude.{MatchOption};
 ghost use Rattle.protobuf_parse_base.specs.Characters as char;
 ghost use Rattle.protobuf_parse_lexer.specs.Text.{is_in, IsBlock, IsQuote, IsString, IsIdentText};
-ghost use Rattle.protobuf_parse_lexer.specs.Text.{HasNoComment, Longest, NoFront};
+ghost use Rattle.protobuf_parse_lexer.specs.Text.{HasNoComment, NoFront};
+ghost use Rattle.protobuf_parse_lexer.specs.Longest.{Longest};
 ghost use Rattle.protobuf_parse_lexer.specs.Scan as scan;
 ghost use Rattle.protobuf_parse_lexer.specs.Scan.{Stands};
 

@@ -7,7 +7,8 @@ ghost use Rattle.std.specs.Str.Parse as parse;
 ghost use Rattle.std.specs.Char as char;
 ghost use Rattle.protobuf_parse_lexer.specs.Text.{is_in, AllIn, RunStopsAt, IsHex, IsOctal};
 ghost use Rattle.protobuf_parse_lexer.specs.Text.{IsDecimal, IsExponent, IsFloat, IsIntegerText};
-ghost use Rattle.protobuf_parse_lexer.specs.Text.{IsLongest, IsToken, Longest, NoFront};
+ghost use Rattle.protobuf_parse_lexer.specs.Text.{IsLongest, IsToken, NoFront};
+ghost use Rattle.protobuf_parse_lexer.specs.Longest.{Longest};
 ghost use Rattle.protobuf_parse_lexer.specs.Scan.{EndsFraction, BeginsNumber, Stands};
 
 use crate::error::ParserError;

@@ -7,10 +7,12 @@ ghost use Rattle.protobuf_parse_lexer.specs.Scan.{is_no_backslash};
 ghost use Rattle.protobuf_parse_lexer.specs.Text.{is_in};
 ghost use Rattle.protobuf_parse_lexer.specs.Tokens as tokens;
 ghost use Rattle.protobuf_parse_lexer.specs.Tokens.{IsDigits, DecodesAll, StandsFor};
-ghost use Rattle.protobuf_parse_lexer.specs.Decoding.{NamesByte, NamesNoByte, NamesChar};
-ghost use Rattle.protobuf_parse_lexer.specs.Decoding.{NamesNoChar, HasEscape, HasNoEscape};
-ghost use Rattle.protobuf_parse_lexer.specs.Decoding.{HasPart, HasNoPart, meaning_bytes};
-ghost use Rattle.protobuf_parse_lexer.specs.Decoding.{PushesPiece, RefusesBytes, RefusesText};
+ghost use Rattle.protobuf_parse_lexer.specs.PieceParts.{NamesByte, NamesNoByte, NamesChar};
+ghost use Rattle.protobuf_parse_lexer.specs.PieceParts.{NamesNoChar, HasEscape, HasNoEscape};
+ghost use Rattle.protobuf_parse_lexer.specs.Decoding.{meaning_bytes};
+ghost use Rattle.protobuf_parse_lexer.specs.PieceParts.{HasPart, HasNoPart};
+ghost use Rattle.protobuf_parse_lexer.specs.Decoding.{RefusesBytes, RefusesText};
+ghost use Rattle.protobuf_parse_lexer.specs.PieceParts.{PushesPiece};
 ghost use Rattle.protobuf_parse_lexer.specs.declared.lexer.str_lit.StrLitDecodeError.TheVariants.{Memory};
 
 use crate::lexer::bytes::{ByteClass, byte_at, is_in, run_end};

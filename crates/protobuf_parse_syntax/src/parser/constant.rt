@@ -9,6 +9,7 @@ ghost use Rattle.protobuf_parse_syntax.specs.ClassLaws.{lexicon};
 ghost use Rattle.protobuf_parse_syntax.specs.Grammar as grammar;
 ghost use Rattle.protobuf_parse_syntax.specs.Productions as read;
 ghost use Rattle.protobuf_parse_syntax.specs.Trees as view;
+ghost use Rattle.protobuf_parse_syntax.specs.InnerViews.{constant_field_syntax};
 ghost use Rattle.protobuf_parse_syntax.specs.Code.{left, Gives, Stands};
 ghost use Rattle.protobuf_parse_syntax.specs.Nested as nest;
 
@@ -243,7 +244,7 @@ fn constant_fields(
     tokens: &mut Cursor<'_>,
     levels: usize,
 ) -> Result<Vec<ConstantField>, Refusal>
-    ensures { Gives (λ v. map view.constant_field_syntax v.items) result (left tokens.new)
+    ensures { Gives (λ v. map constant_field_syntax v.items) result (left tokens.new)
         ((nest.constant_fields_of (both (nest.constant levels))).low.run (left tokens.old)) }
 {
     let mut fields = Vec::new(alloc);
@@ -262,7 +263,7 @@ fn constant_field(
     tokens: &mut Cursor<'_>,
     levels: usize,
 ) -> Result<ConstantField, Refusal>
-    ensures { Gives view.constant_field_syntax result (left tokens.new)
+    ensures { Gives constant_field_syntax result (left tokens.new)
         ((nest.constant_field_of (both (nest.constant levels))).low.run (left tokens.old)) }
 {
     let name = constant_name(alloc, tokens)?;

@@ -10,6 +10,7 @@ ghost use Rattle.protobuf_parse_lexer.specs.Text.{seen_by};
 ghost use Rattle.protobuf_parse_syntax.specs.ClassLaws.{lexicon};
 ghost use Rattle.protobuf_parse_syntax.specs.Grammar as grammar;
 ghost use Rattle.protobuf_parse_syntax.specs.Trees as view;
+ghost use Rattle.protobuf_parse_syntax.specs.InnerViews.{group_syntax};
 ghost use Rattle.protobuf_parse_syntax.specs.Code.{left, Gives};
 ghost use Rattle.protobuf_parse_syntax.specs.Words.{Finds};
 ghost use Rattle.protobuf_parse_syntax.specs.Fields.{type_in, map_in, after_label_in};
@@ -147,7 +148,7 @@ fn group(
     place: Place,
     label: Option<Label>,
 ) -> Result<Group, Refusal>
-    ensures { Gives (λ g. view.group_of (view.group_syntax g)) result (left tokens.new)
+    ensures { Gives (λ g. view.group_of (group_syntax g)) result (left tokens.new)
         ((nest.group_of syntax place label (nest.fields syntax levels)).low.run (left tokens.old)) }
 {
     tokens.word("group")?;

@@ -3,6 +3,7 @@
 ghost use Rattle.std.specs.Prelude.{map};
 ghost use Rattle.protobuf_parse_lexer.specs.Text.{seen_by};
 ghost use Rattle.protobuf_parse_syntax.specs.Trees as view;
+ghost use Rattle.protobuf_parse_syntax.specs.InnerViews.{message_statement_syntax};
 ghost use Rattle.protobuf_parse_syntax.specs.Code.{left, Gives, Puts, PutsSome};
 ghost use Rattle.protobuf_parse_syntax.specs.Nested as nest;
 
@@ -69,7 +70,7 @@ fn message_statements(
     syntax: Syntax,
     levels: usize,
 ) -> Result<Vec<MessageStatement>, Refusal>
-    ensures { Gives (λ v. map view.message_statement_syntax v.items) result (left tokens.new)
+    ensures { Gives (λ v. map message_statement_syntax v.items) result (left tokens.new)
         ((nest.message_items syntax levels).low.run (left tokens.old)) }
 {
     let mut body = Vec::new(alloc);
@@ -89,7 +90,7 @@ fn message_item(
     levels: usize,
     body: &mut Vec<MessageStatement>,
 ) -> Result<(), Refusal>
-    ensures { PutsSome view.message_statement_syntax result body.old.items body.new.items
+    ensures { PutsSome message_statement_syntax result body.old.items body.new.items
         (left tokens.new) ((nest.message_item syntax levels).low.run (left tokens.old)) }
 {
     if tokens.sees_symbol(';') {
@@ -109,7 +110,7 @@ fn message_statement(
     levels: usize,
     body: &mut Vec<MessageStatement>,
 ) -> Result<(), Refusal>
-    ensures { Puts view.message_statement_syntax result body.old.items body.new.items
+    ensures { Puts message_statement_syntax result body.old.items body.new.items
         (left tokens.new) ((nest.message_statement syntax levels).low.run (left tokens.old)) }
 {
     if sees_statement_word(tokens) {
@@ -130,7 +131,7 @@ fn put_other_statement(
     levels: usize,
     body: &mut Vec<MessageStatement>,
 ) -> Result<(), Refusal>
-    ensures { Puts view.message_statement_syntax result body.old.items body.new.items
+    ensures { Puts message_statement_syntax result body.old.items body.new.items
         (left tokens.new) ((nest.message_statement syntax levels).low.run (left tokens.old)) }
 {
     let statement = other_statement(alloc, tokens, syntax, levels)?;
@@ -147,7 +148,7 @@ fn other_statement(
     syntax: Syntax,
     levels: usize,
 ) -> Result<MessageStatement, Refusal>
-    ensures { Gives view.message_statement_syntax result (left tokens.new)
+    ensures { Gives message_statement_syntax result (left tokens.new)
         ((nest.message_statement syntax levels).low.run (left tokens.old)) }
 {
     if tokens.sees_word("reserved") {

@@ -6,7 +6,9 @@ ghost use Rattle.std.specs.Fmt.{DisplaysOnOk};
 ghost use Rattle.std.specs.String.{string_bytes};
 ghost use Rattle.protobuf_parse_base.specs.Characters as char;
 ghost use Rattle.protobuf_parse_syntax.specs.Formats as spec;
-ghost use Rattle.protobuf_parse_syntax.specs.Trees.{constant_syntax, constant_field_syntax};
+ghost use Rattle.protobuf_parse_syntax.specs.ListTexts as lists;
+ghost use Rattle.protobuf_parse_syntax.specs.Trees.{constant_syntax};
+ghost use Rattle.protobuf_parse_syntax.specs.InnerViews.{constant_field_syntax};
 ghost use Rattle.protobuf_parse_syntax.specs.Trees.{constant_name_syntax, pieces_of};
 
 use protobuf_parse_base::Name;
@@ -91,7 +93,7 @@ fn write_constant<W: fmt::Write>(
 #[cycle(display)]
 fn write_list<W: fmt::Write>(f: &mut fmt::Formatter<W>, items: &[ProtobufConstant]) -> fmt::Result
     ensures { DisplaysOnOk W.write_str_gives f.old result
-        (Some (spec.list_text (map constant_syntax items.now))) f.new }
+        (Some (lists.list_text (map constant_syntax items.now))) f.new }
 {
     write!(f, "[")?;
     write_items(f, items)?;
@@ -102,7 +104,7 @@ fn write_list<W: fmt::Write>(f: &mut fmt::Formatter<W>, items: &[ProtobufConstan
 #[cycle(display)]
 fn write_items<W: fmt::Write>(f: &mut fmt::Formatter<W>, items: &[ProtobufConstant]) -> fmt::Result
     ensures { DisplaysOnOk W.write_str_gives f.old result
-        (Some (spec.items_text (map constant_syntax items.now))) f.new }
+        (Some (lists.items_text (map constant_syntax items.now))) f.new }
 {
     for (i, item) in items.iter().enumerate() {
         write_between(f, i, ",")?;
@@ -115,7 +117,7 @@ fn write_items<W: fmt::Write>(f: &mut fmt::Formatter<W>, items: &[ProtobufConsta
 #[cycle(display)]
 fn write_message<W: fmt::Write>(f: &mut fmt::Formatter<W>, fields: &[ConstantField]) -> fmt::Result
     ensures { DisplaysOnOk W.write_str_gives f.old result
-        (Some (spec.message_text (map constant_field_syntax fields.now))) f.new }
+        (Some (lists.message_text (map constant_field_syntax fields.now))) f.new }
 {
     write!(f, "{{ ")?;
     write_fields(f, fields)?;
@@ -125,7 +127,7 @@ fn write_message<W: fmt::Write>(f: &mut fmt::Formatter<W>, fields: &[ConstantFie
 #[cycle(display)]
 fn write_fields<W: fmt::Write>(f: &mut fmt::Formatter<W>, fields: &[ConstantField]) -> fmt::Result
     ensures { DisplaysOnOk W.write_str_gives f.old result
-        (Some (flat_map spec.constant_field_text (map constant_field_syntax fields.now))) f.new }
+        (Some (flat_map lists.constant_field_text (map constant_field_syntax fields.now))) f.new }
 {
     for field in fields {
         write_field(f, field)?;
@@ -136,7 +138,7 @@ fn write_fields<W: fmt::Write>(f: &mut fmt::Formatter<W>, fields: &[ConstantFiel
 #[cycle(display)]
 fn write_field<W: fmt::Write>(f: &mut fmt::Formatter<W>, field: &ConstantField) -> fmt::Result
     ensures { DisplaysOnOk W.write_str_gives f.old result
-        (Some (spec.constant_field_text (constant_field_syntax field.now))) f.new }
+        (Some (lists.constant_field_text (constant_field_syntax field.now))) f.new }
 {
     let name = &field.name;
     let value = &field.value;

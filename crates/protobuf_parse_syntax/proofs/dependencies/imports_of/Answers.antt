@@ -1,7 +1,8 @@
 -- Each turn looks at the next statement.
 use Rattle.std.proofs.Common.{map, take, sym, ap, ◌∙◌, arith, rules}
 use Rattle.std.proofs.lemmas.List.{length-map, length-take-le}
-use Rattle.protobuf_parse_syntax.specs.Dependencies.{FileImports, dependencies_of, with_statement}
+use Rattle.protobuf_parse_syntax.specs.Dependencies.{FileImports, dependencies_of}
+use Rattle.protobuf_parse_syntax.specs.ImportSteps.{with_statement}
 use Rattle.protobuf_parse_syntax.specs.Trees.{statement_syntax}
 use Rattle.protobuf_parse_syntax.proofs.Formats.{views-more}
 use Rattle.protobuf_parse_syntax.proofs.Imports.{dependencies-more, dependencies-few}

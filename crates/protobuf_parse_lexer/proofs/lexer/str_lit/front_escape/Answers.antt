@@ -2,7 +2,7 @@ use Rattle.std.proofs.Common.{◌≡◌, sym, ap, ◌∙◌, subst, inl, inr, ar
 use Rattle.protobuf_parse_lexer.specs.Text.{is_in}
 use Rattle.protobuf_parse_lexer.specs.declared.lexer.bytes.ByteClass.TheVariants as class
 use Rattle.protobuf_parse_lexer.specs.Tokens.{letter, letter_byte}
-use Rattle.protobuf_parse_lexer.specs.Decoding.{HasEscape, HasNoEscape}
+use Rattle.protobuf_parse_lexer.specs.PieceParts.{HasEscape, HasNoEscape}
 use Rattle.protobuf_parse_lexer.specs.Escapes.{octal_front, hex_front, short_front, long_front}
 use Rattle.protobuf_parse_lexer.specs.Escapes.{no_letter}
 use Rattle.protobuf_parse_lexer.proofs.lexer.str_lit.front_escape.Goals as goal

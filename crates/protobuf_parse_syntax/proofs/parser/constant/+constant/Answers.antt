@@ -4,7 +4,7 @@ use Rattle.protobuf_parse_base.specs.Combinators.{shorter}
 use Rattle.protobuf_parse_base.specs.Pairs.{both}
 use Rattle.protobuf_parse_base.specs.Loops.{shows_themselves, goes_on, stops_here}
 use Rattle.protobuf_parse_syntax.specs.Trees.{ConstantFieldSyntax, constant_syntax}
-use Rattle.protobuf_parse_syntax.specs.Trees.{constant_field_syntax}
+use Rattle.protobuf_parse_syntax.specs.InnerViews.{constant_field_syntax}
 use Rattle.protobuf_parse_syntax.specs.Nested as nest
 use Rattle.protobuf_parse_syntax.specs.Code.{left, fails_first}
 use Rattle.protobuf_parse_syntax.proofs.Loops.{fails, put_behind, listed_fails_comma, listed_fails}

@@ -4,7 +4,7 @@ use Rattle.protobuf_parse_base.specs.Readers.{size}
 use Rattle.protobuf_parse_base.specs.Combinators.{run_many}
 use Rattle.protobuf_parse_base.specs.Loops.{with_rest}
 use Rattle.protobuf_parse_syntax.specs.Trees.{ConstantFieldSyntax, constant_syntax}
-use Rattle.protobuf_parse_syntax.specs.Trees.{constant_field_syntax}
+use Rattle.protobuf_parse_syntax.specs.InnerViews.{constant_field_syntax}
 use Rattle.protobuf_parse_syntax.specs.Nested as nest
 use Rattle.protobuf_parse_syntax.specs.Code.{left}
 use Rattle.protobuf_parse_syntax.proofs.Loops.{listed}

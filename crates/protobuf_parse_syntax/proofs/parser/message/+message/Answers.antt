@@ -7,7 +7,8 @@ use Rattle.protobuf_parse_base.specs.Loops.{shows_somes, goes_on, stops_here}
 use Rattle.protobuf_parse_lexer.specs.Text.{seen_by}
 use Rattle.protobuf_parse_syntax.specs.Productions as parse
 use Rattle.protobuf_parse_syntax.specs.Trees as tree
-use Rattle.protobuf_parse_syntax.specs.Trees.{message_statement_syntax, MessageStatementSyntax}
+use Rattle.protobuf_parse_syntax.specs.Trees.{MessageStatementSyntax}
+use Rattle.protobuf_parse_syntax.specs.InnerViews.{message_statement_syntax}
 use Rattle.protobuf_parse_syntax.specs.Nested as nest
 use Rattle.protobuf_parse_syntax.specs.Nested.{message_zero, message_more}
 use Rattle.protobuf_parse_syntax.specs.Code.{left, too_deep, fails_first}

@@ -2,8 +2,10 @@
 use Rattle.std.proofs.Common.{map, ap, refl, ◌∙◌, rules}
 use Rattle.std.proofs.Output.{has_written_of_eq}
 use Rattle.std.proofs.lemmas.Grind.{put_three}
-use Rattle.protobuf_parse_syntax.specs.Formats.{format, list_text, message_text}
-use Rattle.protobuf_parse_syntax.specs.Trees.{constant_syntax, constant_field_syntax}
+use Rattle.protobuf_parse_syntax.specs.Formats.{format}
+use Rattle.protobuf_parse_syntax.specs.ListTexts.{list_text, message_text}
+use Rattle.protobuf_parse_syntax.specs.Trees.{constant_syntax}
+use Rattle.protobuf_parse_syntax.specs.InnerViews.{constant_field_syntax}
 use Rattle.protobuf_parse_syntax.proofs.Formats.{join-take, is_ok-from, format-number}
 use Rattle.protobuf_parse_syntax.proofs.Formats.{format-signed, format-truth, format-ident}
 use Rattle.protobuf_parse_syntax.proofs.Formats.{format-text, format-list, format-message}

@@ -2,8 +2,9 @@
 use Rattle.std.specs.Prelude.{flat_map}
 use Rattle.std.proofs.Common.{map, take}
 use Rattle.std.specs.Fmt.{HasWritten, IsPlainFormatter}
-use Rattle.protobuf_parse_syntax.specs.Formats.{items_text, constant_field_text}
-use Rattle.protobuf_parse_syntax.specs.Trees.{constant_syntax, constant_field_syntax}
+use Rattle.protobuf_parse_syntax.specs.ListTexts.{items_text, constant_field_text}
+use Rattle.protobuf_parse_syntax.specs.Trees.{constant_syntax}
+use Rattle.protobuf_parse_syntax.specs.InnerViews.{constant_field_syntax}
 use Rattle.protobuf_parse_syntax.proofs.tree.constant.+display.Given as goal
 
 abbrev pub invariant-write_items-loop-i : goal.invariant-write_items-loop-i
