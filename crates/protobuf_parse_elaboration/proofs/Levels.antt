@@ -4,7 +4,7 @@ use Rattle.std.proofs.Common.{◌≡◌, ℕ, ◌+◌, List, [], ◌∷◌, ◌+
 use Rattle.std.proofs.Common.{length, length-append, refl, sym, ap, ◌∙◌, arith, append_assoc}
 use Rattle.protobuf_parse_syntax.specs.Trees.{MessageStatementSyntax, MessageSyntax}
 use Rattle.protobuf_parse_syntax.specs.Trees.{message_statements, nested_message}
-use Rattle.protobuf_parse_model.specs.Statements.{message_body_is}
+use Rattle.protobuf_parse_model.proofs.Levels.{message_body_is}
 use Rattle.protobuf_parse_model.specs.Environment.{Environment, env_inside}
 use Rattle.protobuf_parse_elaboration.specs.Messages.{oneofs_of, fields_of, fields_from, nested_of}
 use Rattle.protobuf_parse_elaboration.specs.Messages.{nested_in, message_from, whole_faults}

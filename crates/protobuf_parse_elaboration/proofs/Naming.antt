@@ -14,10 +14,10 @@ use Rattle.protobuf_parse_model.specs.declared.descriptor.OneofDescriptorProto.{
 use Rattle.protobuf_parse_model.specs.declared.descriptor.ServiceDescriptorProto.{ServiceDescriptorProto}
 use Rattle.protobuf_parse_model.specs.Descriptors.{Text, enum_view, field_view, message_view}
 use Rattle.protobuf_parse_model.specs.Descriptors.{oneof_view, service_view}
-use Rattle.protobuf_parse_elaboration.specs.Fields.{names_of_fields}
-use Rattle.protobuf_parse_elaboration.specs.FileDescriptor.{names_of_services}
-use Rattle.protobuf_parse_elaboration.specs.Messages.{message_name, names_of_enums}
-use Rattle.protobuf_parse_elaboration.specs.Messages.{names_of_messages, names_of_oneofs}
+use Rattle.protobuf_parse_elaboration.specs.NamesOf.{names_of_fields}
+use Rattle.protobuf_parse_elaboration.specs.NamesOf.{names_of_services}
+use Rattle.protobuf_parse_elaboration.specs.NamesOf.{message_name, names_of_enums}
+use Rattle.protobuf_parse_elaboration.specs.NamesOf.{names_of_messages, names_of_oneofs}
 
 names_seen : {A B : Type 0} (name : B → Text) (view : A → B) (xs : List A)
     → map (λ x. name (view x)) xs ≡ map name (map view xs)

@@ -36,9 +36,10 @@ use Rattle.protobuf_parse_model.specs.Environment.{Environment, no_customs}
 use Rattle.protobuf_parse_model.specs.OptionMessages.{entry_options}
 use Rattle.protobuf_parse_model.specs.Linking.{link_faults}
 use Rattle.protobuf_parse_elaboration.specs.Fields.{of_message, field_of, field_faults}
-use Rattle.protobuf_parse_elaboration.specs.Fields.{names_of_fields}
+use Rattle.protobuf_parse_elaboration.specs.NamesOf.{names_of_fields}
 use Rattle.protobuf_parse_elaboration.specs.Enums.{enum_of}
 use Rattle.protobuf_parse_elaboration.specs.Messages as messages
+use Rattle.protobuf_parse_elaboration.specs.NamesOf.{names_of_messages}
 use Rattle.protobuf_parse_elaboration.specs.FileDescriptor.{environment, file_of, file_faults}
 use Rattle.protobuf_parse_elaboration.specs.NamedTypes.{type_names_in}
 use Rattle.protobuf_parse_model.specs.declared.error.ElabErrorKind.{ElabErrorKind}
@@ -205,7 +206,7 @@ group_is_a_field : map (λ m. map shape (parts m).field) (messages_in (with_grou
     ≡ ((codes "item", Repeated, kind.Group, Some (codes ".M.Item")) ∷ []) ∷ []
 group_is_a_field = refl
 
-group_is_a_message : map (λ m. messages.names_of_messages (nested m)) (messages_in (with_group []))
+group_is_a_message : map (λ m. names_of_messages (nested m)) (messages_in (with_group []))
     ≡ (codes "Item" ∷ []) ∷ []
 group_is_a_message = refl
 

@@ -13,16 +13,19 @@ use Rattle.protobuf_parse_model.specs.Duplicates.{NamedAt}
 use Rattle.protobuf_parse_model.specs.Statements.{oneof_fields, groups}
 use Rattle.protobuf_parse_model.specs.Environment.{Environment, Customs}
 use Rattle.protobuf_parse_elaboration.specs.Fields.{FieldOwner, of_message, field_statement_of}
-use Rattle.protobuf_parse_elaboration.specs.Fields.{field_named, names_of_fields}
+use Rattle.protobuf_parse_elaboration.specs.Fields.{field_named}
+use Rattle.protobuf_parse_elaboration.specs.NamesOf.{names_of_fields}
 use Rattle.protobuf_parse_elaboration.specs.Messages as messages
 use Rattle.protobuf_parse_elaboration.specs.Messages.{entries_of, messages_behind, has_own_oneof}
 use Rattle.protobuf_parse_elaboration.specs.Messages.{oneofs_of, at_oneof, fields_of, fields_from}
-use Rattle.protobuf_parse_elaboration.specs.Messages.{extending, message_name, names_of_messages}
-use Rattle.protobuf_parse_elaboration.specs.Messages.{names_of_oneofs, names_of_enums, nested_of}
+use Rattle.protobuf_parse_elaboration.specs.Messages.{extending}
+use Rattle.protobuf_parse_elaboration.specs.NamesOf.{message_name, names_of_messages}
+use Rattle.protobuf_parse_elaboration.specs.Messages.{nested_of}
+use Rattle.protobuf_parse_elaboration.specs.NamesOf.{names_of_oneofs, names_of_enums}
 use Rattle.protobuf_parse_elaboration.specs.Messages.{own_oneof, own_oneof_named, entries_named}
 use Rattle.protobuf_parse_elaboration.specs.FileDescriptor as files
 use Rattle.protobuf_parse_elaboration.specs.FileDescriptor.{file_messages_of, services_of}
-use Rattle.protobuf_parse_elaboration.specs.FileDescriptor.{names_of_services}
+use Rattle.protobuf_parse_elaboration.specs.NamesOf.{names_of_services}
 use Rattle.protobuf_parse_elaboration.proofs.Told.{names_of}
 
 -- the environment, with these custom options

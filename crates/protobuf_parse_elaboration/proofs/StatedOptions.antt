@@ -1,6 +1,7 @@
 -- The options that statements set are those of what is seen of them.
 use Rattle.std.proofs.Common.{◌≡◌, List, [], ◌∷◌, ◌++◌, flat_map, map, refl, ap}
-use Rattle.protobuf_parse_syntax.specs.Trees.{enum_statement_syntax, message_statement_syntax}
+use Rattle.protobuf_parse_syntax.specs.Trees.{enum_statement_syntax}
+use Rattle.protobuf_parse_syntax.specs.InnerViews.{message_statement_syntax}
 use Rattle.protobuf_parse_syntax.specs.Trees.{option_statement_syntax, statement_syntax}
 use Rattle.protobuf_parse_syntax.specs.Trees.{oneof_statement_syntax, service_statement_syntax}
 use Rattle.protobuf_parse_syntax.specs.declared.tree.option.OptionStatement.{OptionStatement}

@@ -225,10 +225,6 @@ field_faults env f = placed f.place (type_faults env f.name f.type_)
 
 -- ---- groups, and where maps and groups may not stand
 
--- the names of fields
-abbrev pub names_of_fields : List FieldDescriptor → List Text
-names_of_fields fields = map (λ (f : FieldDescriptor). f.name) fields
-
 abbrev pub fields_of_group : Environment → List FieldStatementSyntax → List FieldDescriptor
 fields_of_group env fields = map (field_statement_of env of_message) fields
 

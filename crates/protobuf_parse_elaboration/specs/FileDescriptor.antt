@@ -5,7 +5,7 @@
 -- Which files a file sees, and which it reaches by its imports, are given as lists, the file itself
 -- among them. Protocol Buffers Language Specification, "Proto file", "Import Statement", "Package"
 -- (https://protobuf.dev).
-use Rattle.std.specs.Prelude.{List, [], ◌∷◌, ◌++◌, map, flat_map, codes, Some}
+use Rattle.std.specs.Prelude.{List, [], ◌∷◌, ◌++◌, flat_map, codes, Some}
 use Rattle.protobuf_parse_syntax.specs.Trees.{OptionSyntax, StatementSyntax, file_option}
 use Rattle.protobuf_parse_syntax.specs.Trees.{file_message, file_enum, file_extend, file_service}
 use Rattle.protobuf_parse_syntax.specs.Trees.{FileSyntax, package_of, nested_message}
@@ -105,9 +105,6 @@ file_faults_of env (file_enum e) = enum_faults env e
 file_faults_of env (file_extend e) = extend_faults env e
 file_faults_of env (file_service s) = service_faults env s
 file_faults_of env _ = []
-
-abbrev pub names_of_services : List ServiceDescriptor → List Text
-names_of_services services = map (λ (s : ServiceDescriptor). s.name) services
 
 -- what the statements of a file declare; those that a message may have too declare the same there
 abbrev pub file_messages_named : StatementSyntax → List NamedAt

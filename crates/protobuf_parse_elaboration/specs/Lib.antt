@@ -14,3 +14,4 @@ pub mod CustomSets
 pub mod Declaring
 pub mod Viewpoints
 pub mod Telling
+pub mod NamesOf

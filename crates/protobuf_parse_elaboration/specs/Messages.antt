@@ -255,18 +255,6 @@ abbrev mutual
 
 -- ---- names
 
-abbrev pub message_name : MessageDescriptor → Text
-message_name (a_message parts nested) = parts.name
-
-abbrev pub names_of_messages : List MessageDescriptor → List Text
-names_of_messages messages = map message_name messages
-
-abbrev pub names_of_oneofs : List OneofDescriptor → List Text
-names_of_oneofs oneofs = map (λ (o : OneofDescriptor). o.name) oneofs
-
-abbrev pub names_of_enums : List EnumDescriptor → List Text
-names_of_enums enums = map (λ (e : EnumDescriptor). e.name) enums
-
 -- ---- what the statements of a body declare, as declarations
 
 abbrev pub fields_named : MessageStatementSyntax → List NamedAt

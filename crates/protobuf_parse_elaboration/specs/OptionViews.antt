@@ -1,13 +1,11 @@
 -- No public clause rests on this file.
 -- Constants and tables of options as the code holds them.
-use Rattle.std.specs.Prelude.{◌≡◌, ℕ, List, map, Option, option_map, String, string_bytes}
+use Rattle.std.specs.Prelude.{ℕ, List, map}
 use Rattle.std.specs.Borrow.{Bor}
-use Rattle.std.specs.Global.{Global}
 use Rattle.protobuf_parse_syntax.specs.Trees.{ConstantSyntax, constant_syntax}
 use Rattle.protobuf_parse_syntax.specs.declared.tree.constant.ProtobufConstant.{ProtobufConstant}
-use Rattle.protobuf_parse_syntax.specs.declared.tree.option.ProtobufOption.{ProtobufOption}
 use Rattle.protobuf_parse_model.specs.BuiltinOptions as spec
-use Rattle.protobuf_parse_model.specs.BuiltinOptions.{options_seen, Words, a_text, a_truth, a_word}
+use Rattle.protobuf_parse_model.specs.BuiltinOptions.{Words, a_text, a_truth, a_word}
 use Rattle.protobuf_parse_model.specs.BuiltinOptions.{Table}
 use Rattle.protobuf_parse_model.specs.Descriptors.{Text}
 use Rattle.protobuf_parse_elaboration.specs.declared.constructs.options.tables.BuiltinKind.{BuiltinKind}
@@ -15,10 +13,6 @@ use Rattle.protobuf_parse_elaboration.specs.declared.constructs.options.tables.B
 
 abbrev pub constant_seen : Bor ProtobufConstant → ConstantSyntax
 constant_seen c = constant_syntax c.now
-
--- what the option of that name is set to, if it is
-abbrev pub IsTextOption : List (Bor ProtobufOption) → Text → Option (String Global) → Type 0
-IsTextOption os name text = option_map string_bytes text ≡ spec.text_option (options_seen os) name
 
 -- ---- tables
 

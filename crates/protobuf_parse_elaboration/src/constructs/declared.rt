@@ -2,6 +2,7 @@
 
 ghost use Rattle.std.specs.Prelude.{◌≡◌, [], ◌∷◌, ◌++◌, List, flat_map, map, IfOk, OnOk};
 ghost use Rattle.protobuf_parse_syntax.specs.Trees as tree;
+ghost use Rattle.protobuf_parse_syntax.specs.InnerViews.{message_statement_syntax};
 ghost use Rattle.protobuf_parse_syntax.specs.declared.tree.Syntax.{Syntax};
 ghost use Rattle.protobuf_parse_model.specs.Duplicates.{NamedAt};
 ghost use Rattle.protobuf_parse_model.specs.Statements.{groups, oneof_fields};
@@ -121,7 +122,7 @@ fn place_of(field: &FieldStatement) -> Place
 
 impl Declares for MessageStatement {
     ghost named_as = { λ declared syntax s.
-        named_by declared syntax (tree.message_statement_syntax s) };
+        named_by declared syntax (message_statement_syntax s) };
 
     fn push_places(
         &self,

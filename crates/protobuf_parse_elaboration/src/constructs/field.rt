@@ -4,7 +4,8 @@
 //! bytes is not handed up from call to call: docs/PERFORMANCE.md.
 
 ghost use Rattle.std.specs.Prelude.{◌≡◌, ◌++◌, map, IfOk};
-ghost use Rattle.protobuf_parse_syntax.specs.Trees.{field_syntax, group_syntax, option_syntax};
+ghost use Rattle.protobuf_parse_syntax.specs.Trees.{field_syntax, option_syntax};
+ghost use Rattle.protobuf_parse_syntax.specs.InnerViews.{group_syntax};
 ghost use Rattle.protobuf_parse_syntax.specs.Trees.{type_syntax};
 ghost use Rattle.protobuf_parse_model.specs.BuiltinOptions.{options_seen};
 ghost use Rattle.protobuf_parse_model.specs.Descriptors as described;

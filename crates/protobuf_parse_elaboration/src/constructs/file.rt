@@ -3,7 +3,7 @@
 ghost use Rattle.std.specs.Prelude.{◌≡◌, ◌≤◌, ◌++◌, IfOk};
 ghost use Rattle.protobuf_parse_syntax.specs.Counts.{statements_in};
 ghost use Rattle.protobuf_parse_syntax.specs.Trees.{file_syntax};
-ghost use Rattle.protobuf_parse_model.specs.SeenFiles.{environment_of_file};
+ghost use Rattle.protobuf_parse_model.specs.SeenParts.{environment_of_file};
 ghost use Rattle.protobuf_parse_model.specs.Descriptors as described;
 ghost use Rattle.protobuf_parse_elaboration.specs.FileDescriptor.{file_faults, file_of};
 ghost use Rattle.protobuf_parse_elaboration.specs.Viewpoints.{seen_from};

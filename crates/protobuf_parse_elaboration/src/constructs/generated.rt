@@ -2,7 +2,8 @@
 
 ghost use Rattle.std.specs.Prelude.{◌≡◌, ◌++◌, map, flat_map, option_map, IfOk};
 ghost use Rattle.protobuf_parse_base.specs.DeclaredNames.{name_bytes};
-ghost use Rattle.protobuf_parse_syntax.specs.Trees.{field_statement_syntax, group_syntax};
+ghost use Rattle.protobuf_parse_syntax.specs.Trees.{field_statement_syntax};
+ghost use Rattle.protobuf_parse_syntax.specs.InnerViews.{group_syntax};
 ghost use Rattle.protobuf_parse_syntax.specs.Trees.{map_of, type_syntax};
 ghost use Rattle.protobuf_parse_model.specs.Descriptors as described;
 ghost use Rattle.protobuf_parse_model.specs.Duplicates.{duplicates, fault};

@@ -3,7 +3,8 @@
 ghost use Rattle.std.specs.Prelude.{◌≡◌, [], ◌∷◌, ◌++◌, ◌<◌, ◌≤◌, ◌^◌, length, map, flat_map};
 ghost use Rattle.std.specs.Prelude.{sum_by, IfOk, OnOk};
 ghost use Rattle.protobuf_parse_syntax.specs.Counts.{in_message, message_statement_count};
-ghost use Rattle.protobuf_parse_syntax.specs.Trees.{message_statement_syntax, message_syntax};
+ghost use Rattle.protobuf_parse_syntax.specs.Trees.{message_syntax};
+ghost use Rattle.protobuf_parse_syntax.specs.InnerViews.{message_statement_syntax};
 ghost use Rattle.protobuf_parse_syntax.specs.Trees.{nested_message};
 ghost use Rattle.protobuf_parse_model.specs.SeenFiles.{name_texts};
 ghost use Rattle.protobuf_parse_model.specs.Declarations as names;

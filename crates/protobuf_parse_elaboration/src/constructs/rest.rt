@@ -2,7 +2,8 @@
 
 ghost use Rattle.std.specs.Prelude.{◌≡◌, ◌++◌, map, flat_map, option_map, string_bytes, IfOk};
 ghost use Rattle.std.specs.Prelude.{OnOk};
-ghost use Rattle.protobuf_parse_syntax.specs.Trees.{message_statement_syntax, range_syntax};
+ghost use Rattle.protobuf_parse_syntax.specs.Trees.{range_syntax};
+ghost use Rattle.protobuf_parse_syntax.specs.InnerViews.{message_statement_syntax};
 ghost use Rattle.protobuf_parse_syntax.specs.Trees.{reserved_syntax};
 ghost use Rattle.protobuf_parse_model.specs.BuiltinOptions.{message_table};
 ghost use Rattle.protobuf_parse_model.specs.Descriptors as described;

@@ -3,7 +3,7 @@
 ghost use Rattle.std.specs.Prelude.{◌≡◌, [], ◌∷◌, ◌++◌, IfOk, OnOk};
 ghost use Rattle.protobuf_parse_syntax.specs.Trees as tree;
 ghost use Rattle.protobuf_parse_syntax.specs.Trees.{field_syntax, field_statement_syntax, group_of};
-ghost use Rattle.protobuf_parse_syntax.specs.Trees.{group_syntax};
+ghost use Rattle.protobuf_parse_syntax.specs.InnerViews.{group_syntax};
 ghost use Rattle.protobuf_parse_elaboration.specs.Parts.{behind_seen, declared_view};
 ghost use Rattle.protobuf_parse_elaboration.specs.Parts.{field_declared_by, extension_declared_by};
 ghost use Rattle.protobuf_parse_elaboration.specs.Parts.{field_owner_view};
@@ -191,7 +191,7 @@ fn declared_without_entry<C: CustomOptions>(
 }
 
 /// A group.
-#[tactic(auto, using(protobuf_parse_model::specs::Statements::group_body_is))]
+#[tactic(auto, using(protobuf_parse_model::proofs::Levels::group_body_is))]
 fn declared_group<C: CustomOptions>(
     at: &Viewpoint<'_, '_, C>,
     faults: &mut Vec<ElabError>,

@@ -2,11 +2,10 @@
 //! where a statement stands. An option that the last statement with its name
 //! sets to what it can't be is as one that isn't set.
 
-ghost use Rattle.std.specs.Prelude.{◌≡◌, codes, option_map, IfOk};
+ghost use Rattle.std.specs.Prelude.{◌≡◌, option_map, IfOk};
 ghost use Rattle.protobuf_parse_model.specs.Options as seen;
 ghost use Rattle.protobuf_parse_model.specs.OptionMessages as spec;
 ghost use Rattle.protobuf_parse_model.specs.BuiltinOptions.{options_seen};
-ghost use Rattle.protobuf_parse_elaboration.specs.OptionViews.{IsTextOption};
 
 use crate::constructs::options::said::{text_option, truth_option, word_option};
 use protobuf_parse_model::{
@@ -53,14 +52,12 @@ pub fn file_options(
     if options.is_empty() {
         return Ok(None);
     }
-    let early = early_texts(alloc, options)?;
-    let late = late_texts(alloc, options)?;
     Ok(Some(FileOptions {
-        java_package: early.java_package,
-        java_outer_classname: early.java_outer_classname,
+        java_package: text_option(alloc, options, "java_package")?,
+        java_outer_classname: text_option(alloc, options, "java_outer_classname")?,
         optimize_for: word_option(options, "optimize_for", OPTIMIZE_MODES),
         java_multiple_files: truth_option(options, "java_multiple_files"),
-        go_package: early.go_package,
+        go_package: text_option(alloc, options, "go_package")?,
         cc_generic_services: truth_option(options, "cc_generic_services"),
         java_generic_services: truth_option(options, "java_generic_services"),
         py_generic_services: truth_option(options, "py_generic_services"),
@@ -68,87 +65,15 @@ pub fn file_options(
         deprecated: truth_option(options, "deprecated"),
         java_string_check_utf8: truth_option(options, "java_string_check_utf8"),
         cc_enable_arenas: truth_option(options, "cc_enable_arenas"),
-        objc_class_prefix: early.objc_class_prefix,
-        csharp_namespace: early.csharp_namespace,
-        swift_prefix: late.swift_prefix,
-        php_class_prefix: late.php_class_prefix,
-        php_namespace: late.php_namespace,
-        php_metadata_namespace: late.php_metadata_namespace,
-        ruby_package: late.ruby_package,
+        objc_class_prefix: text_option(alloc, options, "objc_class_prefix")?,
+        csharp_namespace: text_option(alloc, options, "csharp_namespace")?,
+        swift_prefix: text_option(alloc, options, "swift_prefix")?,
+        php_class_prefix: text_option(alloc, options, "php_class_prefix")?,
+        php_namespace: text_option(alloc, options, "php_namespace")?,
+        php_metadata_namespace: text_option(alloc, options, "php_metadata_namespace")?,
+        ruby_package: text_option(alloc, options, "ruby_package")?,
         custom,
     }))
-}
-
-/// The texts among a file's options that stand before number 39.
-#[derive(Drop)]
-struct EarlyTexts {
-    java_package: Option<String>,
-    java_outer_classname: Option<String>,
-    go_package: Option<String>,
-    objc_class_prefix: Option<String>,
-    csharp_namespace: Option<String>,
-}
-
-fn early_texts(alloc: Global, options: &[&ProtobufOption]) -> Result<EarlyTexts, AllocError>
-    ensures java_package { IfOk result
-        (λ t. IsTextOption options.now (codes "java_package") t.java_package) }
-    ensures java_outer_classname { IfOk result
-        (λ t. IsTextOption options.now (codes "java_outer_classname") t.java_outer_classname) }
-    ensures go_package { IfOk result
-        (λ t. IsTextOption options.now (codes "go_package") t.go_package) }
-    ensures objc_class_prefix { IfOk result
-        (λ t. IsTextOption options.now (codes "objc_class_prefix") t.objc_class_prefix) }
-    ensures csharp_namespace { IfOk result
-        (λ t. IsTextOption options.now (codes "csharp_namespace") t.csharp_namespace) }
-{
-    let java_package = text_option(alloc, options, "java_package")?;
-    let java_outer_classname = text_option(alloc, options, "java_outer_classname")?;
-    let go_package = text_option(alloc, options, "go_package")?;
-    let objc_class_prefix = text_option(alloc, options, "objc_class_prefix")?;
-    let csharp_namespace = text_option(alloc, options, "csharp_namespace")?;
-    Ok(EarlyTexts {
-        java_package,
-        java_outer_classname,
-        go_package,
-        objc_class_prefix,
-        csharp_namespace,
-    })
-}
-
-/// The texts among a file's options that stand from number 39 on.
-#[derive(Drop)]
-struct LateTexts {
-    swift_prefix: Option<String>,
-    php_class_prefix: Option<String>,
-    php_namespace: Option<String>,
-    php_metadata_namespace: Option<String>,
-    ruby_package: Option<String>,
-}
-
-fn late_texts(alloc: Global, options: &[&ProtobufOption]) -> Result<LateTexts, AllocError>
-    ensures swift_prefix { IfOk result
-        (λ t. IsTextOption options.now (codes "swift_prefix") t.swift_prefix) }
-    ensures php_class_prefix { IfOk result
-        (λ t. IsTextOption options.now (codes "php_class_prefix") t.php_class_prefix) }
-    ensures php_namespace { IfOk result
-        (λ t. IsTextOption options.now (codes "php_namespace") t.php_namespace) }
-    ensures php_metadata_namespace { IfOk result
-        (λ t. IsTextOption options.now (codes "php_metadata_namespace") t.php_metadata_namespace) }
-    ensures ruby_package { IfOk result
-        (λ t. IsTextOption options.now (codes "ruby_package") t.ruby_package) }
-{
-    let swift_prefix = text_option(alloc, options, "swift_prefix")?;
-    let php_class_prefix = text_option(alloc, options, "php_class_prefix")?;
-    let php_namespace = text_option(alloc, options, "php_namespace")?;
-    let php_metadata_namespace = text_option(alloc, options, "php_metadata_namespace")?;
-    let ruby_package = text_option(alloc, options, "ruby_package")?;
-    Ok(LateTexts {
-        swift_prefix,
-        php_class_prefix,
-        php_namespace,
-        php_metadata_namespace,
-        ruby_package,
-    })
 }
 
 /// The options of a message.

@@ -2,6 +2,7 @@
 
 ghost use Rattle.std.specs.Prelude.{◌≡◌, List, [], ◌∷◌, flat_map, option_to_list, IfOk};
 ghost use Rattle.protobuf_parse_syntax.specs.Trees as tree;
+ghost use Rattle.protobuf_parse_syntax.specs.InnerViews.{message_statement_syntax};
 ghost use Rattle.protobuf_parse_syntax.specs.Trees.{OptionSyntax};
 ghost use Rattle.protobuf_parse_model.specs.BuiltinOptions.{options_seen};
 ghost use Rattle.protobuf_parse_model.specs.Statements.{oneof_statement_options};
@@ -36,7 +37,7 @@ impl MaySetOption for FileStatement {
 }
 
 impl MaySetOption for MessageStatement {
-    ghost options_set = { λ s. options_in_message (tree.message_statement_syntax s) };
+    ghost options_set = { λ s. options_in_message (message_statement_syntax s) };
 
     fn option(&self) -> Option<&ProtobufOption> {
         match self {

@@ -10,14 +10,15 @@ use Rattle.protobuf_parse_model.specs.Descriptors.{service_view}
 use Rattle.protobuf_parse_model.specs.Environment.{Environment}
 use Rattle.protobuf_parse_elaboration.specs.declared.constructs.contents.Contents.{Contents}
 use Rattle.protobuf_parse_elaboration.specs.declared.constructs.contents.FilePlaces.{FilePlaces}
-use Rattle.protobuf_parse_elaboration.specs.Fields.{names_of_fields}
+use Rattle.protobuf_parse_elaboration.specs.NamesOf.{names_of_fields}
 use Rattle.protobuf_parse_elaboration.specs.FileDescriptor as specs
 use Rattle.protobuf_parse_elaboration.specs.FileDescriptor.{file_enums_named, file_extensions_named}
-use Rattle.protobuf_parse_elaboration.specs.FileDescriptor.{file_messages_named, names_of_services}
+use Rattle.protobuf_parse_elaboration.specs.FileDescriptor.{file_messages_named}
+use Rattle.protobuf_parse_elaboration.specs.NamesOf.{names_of_services}
 use Rattle.protobuf_parse_elaboration.specs.FileParts.{AreFilePlaces, FileParts, parts_of_file}
 use Rattle.protobuf_parse_elaboration.specs.FileParts.{parts_view, places}
-use Rattle.protobuf_parse_elaboration.specs.Messages.{message_name, names_of_enums}
-use Rattle.protobuf_parse_elaboration.specs.Messages.{names_of_messages}
+use Rattle.protobuf_parse_elaboration.specs.NamesOf.{message_name, names_of_enums}
+use Rattle.protobuf_parse_elaboration.specs.NamesOf.{names_of_messages}
 use Rattle.protobuf_parse_elaboration.proofs.Gathering.{on_ok}
 use Rattle.protobuf_parse_elaboration.proofs.Naming.{enums_named, fields_named, messages_named}
 use Rattle.protobuf_parse_elaboration.proofs.Naming.{services_named}

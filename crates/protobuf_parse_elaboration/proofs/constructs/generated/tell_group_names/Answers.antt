@@ -3,7 +3,8 @@ use Rattle.protobuf_parse_syntax.specs.Trees.{field_statement_syntax}
 use Rattle.protobuf_parse_model.specs.Duplicates.{duplicates}
 use Rattle.protobuf_parse_model.specs.Faults.{found}
 use Rattle.protobuf_parse_model.specs.SeenFiles.{environment_in}
-use Rattle.protobuf_parse_elaboration.specs.Fields.{field_named, names_of_fields, of_message}
+use Rattle.protobuf_parse_elaboration.specs.Fields.{field_named, of_message}
+use Rattle.protobuf_parse_elaboration.specs.NamesOf.{names_of_fields}
 use Rattle.protobuf_parse_elaboration.proofs.Gathering.{on_ok}
 use Rattle.protobuf_parse_elaboration.proofs.Naming.{fields_named}
 use Rattle.protobuf_parse_elaboration.proofs.SameNames.{fields-names}

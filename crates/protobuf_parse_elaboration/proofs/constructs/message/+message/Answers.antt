@@ -3,7 +3,8 @@ use Rattle.std.proofs.Common.{length, map, sym, sum_by, take}
 use Rattle.std.proofs.lemmas.List.{map_more}
 use Rattle.protobuf_parse_base.specs.DeclaredNames.{name_bytes}
 use Rattle.protobuf_parse_syntax.specs.Trees.{MessageStatementSyntax, MessageSyntax, nested_message}
-use Rattle.protobuf_parse_syntax.specs.Trees.{message_statement_syntax, message_syntax}
+use Rattle.protobuf_parse_syntax.specs.Trees.{message_syntax}
+use Rattle.protobuf_parse_syntax.specs.InnerViews.{message_statement_syntax}
 use Rattle.protobuf_parse_syntax.specs.Counts.{message_statement_count}
 use Rattle.protobuf_parse_syntax.specs.declared.tree.declaration.MessageStatement.{MessageStatement}
 use Rattle.protobuf_parse_syntax.proofs.Counts.{body_length, in_message_of, item_counts}

@@ -1,7 +1,8 @@
 use Rattle.std.proofs.Common.{◌≡◌, ◌≤◌, ◌+◌, ◌*◌, ◌++◌, length, map, sum_by, take, flat_map}
 use Rattle.protobuf_parse_model.specs.Faults.{found}
 use Rattle.protobuf_parse_syntax.specs.Counts.{in_message, message_statement_count}
-use Rattle.protobuf_parse_syntax.specs.Trees.{message_statement_syntax, message_syntax}
+use Rattle.protobuf_parse_syntax.specs.Trees.{message_syntax}
+use Rattle.protobuf_parse_syntax.specs.InnerViews.{message_statement_syntax}
 use Rattle.protobuf_parse_model.specs.SeenFiles.{environment_in}
 use Rattle.protobuf_parse_elaboration.specs.Parts.{body_of, body_view}
 use Rattle.protobuf_parse_elaboration.specs.Messages.{statement_faults}

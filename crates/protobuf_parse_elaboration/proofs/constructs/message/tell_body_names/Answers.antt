@@ -8,12 +8,12 @@ use Rattle.protobuf_parse_model.specs.Descriptors.{enum_view, field_view, messag
 use Rattle.protobuf_parse_model.specs.Duplicates.{duplicates}
 use Rattle.protobuf_parse_model.specs.Faults.{found}
 use Rattle.protobuf_parse_elaboration.proofs.Gathering.{on_ok}
-use Rattle.protobuf_parse_syntax.specs.Trees.{message_statement_syntax}
+use Rattle.protobuf_parse_syntax.specs.InnerViews.{message_statement_syntax}
 use Rattle.protobuf_parse_model.specs.Environment.{env_inside}
 use Rattle.protobuf_parse_model.specs.SeenFiles.{environment_in}
-use Rattle.protobuf_parse_elaboration.specs.Fields.{names_of_fields}
-use Rattle.protobuf_parse_elaboration.specs.Messages.{message_name, names_of_enums}
-use Rattle.protobuf_parse_elaboration.specs.Messages.{names_of_messages, names_of_oneofs}
+use Rattle.protobuf_parse_elaboration.specs.NamesOf.{names_of_fields}
+use Rattle.protobuf_parse_elaboration.specs.NamesOf.{message_name, names_of_enums}
+use Rattle.protobuf_parse_elaboration.specs.NamesOf.{names_of_messages, names_of_oneofs}
 use Rattle.protobuf_parse_elaboration.specs.Messages as messages
 use Rattle.protobuf_parse_elaboration.specs.Parts.{BodyParts}
 use Rattle.protobuf_parse_elaboration.proofs.Naming.{enums_named, fields_named, messages_named}

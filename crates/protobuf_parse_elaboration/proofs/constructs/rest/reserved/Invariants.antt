@@ -1,5 +1,5 @@
 use Rattle.std.proofs.Common.{◌≡◌, map, take, flat_map, string_bytes}
-use Rattle.protobuf_parse_syntax.specs.Trees.{message_statement_syntax}
+use Rattle.protobuf_parse_syntax.specs.InnerViews.{message_statement_syntax}
 use Rattle.protobuf_parse_model.specs.Descriptors.{reserved_range_view}
 use Rattle.protobuf_parse_elaboration.specs.Enums.{names_reserved, ranges_reserved}
 use Rattle.protobuf_parse_elaboration.specs.Messages.{exclusive, reserves}

@@ -1,5 +1,5 @@
 use Rattle.std.proofs.Common.{◌≡◌, ◌++◌, map, take, flat_map}
-use Rattle.protobuf_parse_syntax.specs.Trees.{message_statement_syntax}
+use Rattle.protobuf_parse_syntax.specs.InnerViews.{message_statement_syntax}
 use Rattle.protobuf_parse_model.specs.Faults.{found}
 use Rattle.protobuf_parse_elaboration.specs.Messages.{range_faults}
 use Rattle.protobuf_parse_elaboration.proofs.constructs.rest.tell_ranges.Given as goal

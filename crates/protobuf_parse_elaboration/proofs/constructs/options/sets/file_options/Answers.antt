@@ -6,11 +6,11 @@ pub returns : goal.returns
 returns c =
     set_where_any c.args.options.now _ _ (sym c.is_empty.ensures ∙ c.if-is_empty.false)
     (λ i. record {
-      java_package = c.in_ok-early.ensures.java_package i;
-      java_outer_classname = c.in_ok-early.ensures.java_outer_classname i;
+      java_package = c.in_ok-text_option.ensures i;
+      java_outer_classname = c.in_ok-text_option-2.ensures i;
       optimize_for = c.word_option.ensures i;
       java_multiple_files = c.truth_option.ensures i;
-      go_package = c.in_ok-early.ensures.go_package i;
+      go_package = c.in_ok-text_option-3.ensures i;
       cc_generic_services = c.truth_option-2.ensures i;
       java_generic_services = c.truth_option-3.ensures i;
       py_generic_services = c.truth_option-4.ensures i;
@@ -18,12 +18,12 @@ returns c =
       deprecated = c.truth_option-6.ensures i;
       java_string_check_utf8 = c.truth_option-7.ensures i;
       cc_enable_arenas = c.truth_option-8.ensures i;
-      objc_class_prefix = c.in_ok-early.ensures.objc_class_prefix i;
-      csharp_namespace = c.in_ok-early.ensures.csharp_namespace i;
-      swift_prefix = c.in_ok-late.ensures.swift_prefix i;
-      php_class_prefix = c.in_ok-late.ensures.php_class_prefix i;
-      php_namespace = c.in_ok-late.ensures.php_namespace i;
-      php_metadata_namespace = c.in_ok-late.ensures.php_metadata_namespace i;
-      ruby_package = c.in_ok-late.ensures.ruby_package i;
+      objc_class_prefix = c.in_ok-text_option-4.ensures i;
+      csharp_namespace = c.in_ok-text_option-5.ensures i;
+      swift_prefix = c.in_ok-text_option-6.ensures i;
+      php_class_prefix = c.in_ok-text_option-7.ensures i;
+      php_namespace = c.in_ok-text_option-8.ensures i;
+      php_metadata_namespace = c.in_ok-text_option-9.ensures i;
+      ruby_package = c.in_ok-text_option-10.ensures i;
       custom = c.args.custom.items;
     })
