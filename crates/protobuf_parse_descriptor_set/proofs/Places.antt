@@ -167,17 +167,6 @@ counted p b bs = sum_by-cons (λ x. if p x then 1 else 0) b bs
 one_more : (n : ℕ) → 1 + n ≡ suc n
 one_more n = omega arith
 
-length-marked : {X : Type 0} (marks : List Bool) (xs : List X) → length marks ≡ length xs
-    → length (marked marks xs) ≡ count_by (λ b. b) marks
-length-marked [] [] e = refl
-length-marked [] (x ∷ xs) e = absurd (omega (arith, e))
-length-marked (b ∷ marks) [] e = absurd (omega (arith, e))
-length-marked (true ∷ marks) (x ∷ xs) e =
-    ap suc (length-marked marks xs (omega (arith, e)))
-    ∙ sym (counted (λ b. b) true marks ∙ one_more _)
-length-marked (false ∷ marks) (x ∷ xs) e =
-    length-marked marks xs (omega (arith, e)) ∙ sym (counted (λ b. b) false marks ∙ no_more _)
-
 length-unmarked : {X : Type 0} (marks : List Bool) (xs : List X) → length marks ≡ length xs
     → length (unmarked marks xs) ≡ count_by not marks
 length-unmarked [] [] e = refl

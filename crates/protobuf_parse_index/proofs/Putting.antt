@@ -15,7 +15,8 @@ use Rattle.std.proofs.lemmas.Map.Text.{btree_map_updates_text}
 use Rattle.std.proofs.lemmas.Slice.Eq.{bytes_eq-Decides}
 use Rattle.protobuf_parse_model.specs.Descriptors.{Text}
 use Rattle.protobuf_parse_wire.proofs.Adding.{mapped_one_more}
-use Rattle.protobuf_parse_index.specs.Kept.{Extended, PutsNumber, PutsPosition}
+use Rattle.protobuf_parse_index.specs.Kept.{Extended}
+use Rattle.protobuf_parse_index.specs.Puts.{PutsNumber, PutsPosition}
 use Rattle.protobuf_parse_index.specs.Kept.{at_number, extended_at}
 use Rattle.protobuf_parse_index.proofs.Positions.{put_absent}
 

@@ -1,33 +1,25 @@
 -- A walk that grows by messages, enums and extensions.
-use Rattle.std.proofs.Common.{◌≡◌, ℕ, ◌+◌, ◌<◌, List, [], ◌∷◌, ◌++◌, map, take, get_or, length}
+use Rattle.std.proofs.Common.{◌≡◌, ◌+◌, List, [], ◌∷◌, ◌++◌, map}
 use Rattle.std.proofs.Common.{refl, sym, ap, subst, ◌∙◌, append_assoc, append-nil}
 use Rattle.std.specs.List.{flat_map}
 use Rattle.std.proofs.lemmas.Grind.{flat_map-append}
 use Rattle.protobuf_parse_base.specs.DeclaredNames.{name_bytes}
 use Rattle.protobuf_parse_model.specs.declared.descriptor.DescriptorProto.{DescriptorProto}
 use Rattle.protobuf_parse_model.specs.declared.descriptor.DescriptorProto.{out-DescriptorProto}
-use Rattle.protobuf_parse_model.specs.Descriptors.{Text, FileDescriptor, FieldDescriptor}
+use Rattle.protobuf_parse_model.specs.Descriptors.{Text, FieldDescriptor}
 use Rattle.protobuf_parse_model.specs.Descriptors.{EnumDescriptor, MessageDescriptor, a_message}
 use Rattle.protobuf_parse_model.specs.Descriptors.{messages_of_list, message_parts, message_view}
-use Rattle.protobuf_parse_model.specs.Descriptors.{MessageParts, file_view, message_view_is}
+use Rattle.protobuf_parse_model.specs.Descriptors.{MessageParts}
+use Rattle.protobuf_parse_model.proofs.Levels.{message_view_is}
 use Rattle.protobuf_parse_model.specs.Descriptors.{parts_seen}
-use Rattle.protobuf_parse_model.specs.declared.descriptor.FileDescriptorProto.{FileDescriptorProto}
-use Rattle.protobuf_parse_wire.specs.Declarations.{name_within, package_scope}
-use Rattle.protobuf_parse_wire.proofs.Adding.{joined_one_more}
-use Rattle.protobuf_parse_index.specs.Kept.{WalkAdds, WalkAddsMessages, Walks}
+use Rattle.protobuf_parse_wire.specs.Declarations.{name_within}
+use Rattle.protobuf_parse_index.specs.Kept.{WalkAdds}
+use Rattle.protobuf_parse_index.specs.Puts.{WalkAddsMessages}
 use Rattle.protobuf_parse_index.specs.Views.{standing_enum, standing_extension, standing_message}
-use Rattle.protobuf_parse_index.specs.Walk.{Standing, enums_inside, extensions_inside, all_enums}
-use Rattle.protobuf_parse_index.specs.Walk.{all_extensions, all_messages, enums_of, extensions_of}
-use Rattle.protobuf_parse_index.specs.Walk.{message_within, messages_of, enums_within}
-use Rattle.protobuf_parse_index.specs.Walk.{extensions_within, messages_within, path_of}
+use Rattle.protobuf_parse_index.specs.Walk.{Standing, enums_inside, extensions_inside}
+use Rattle.protobuf_parse_index.specs.Walk.{message_within, enums_within}
+use Rattle.protobuf_parse_index.specs.Walk.{extensions_within, messages_within}
 use Rattle.protobuf_parse_index.specs.declared.walk.Walk.{Walk}
-
-pub walk_adds_none : (walk : Walk) → WalkAdds walk walk [] [] []
-walk_adds_none walk = record {
-  messages = sym (append-nil (map standing_message walk.messages.items));
-  enums = sym (append-nil (map standing_enum walk.enums.items));
-  extensions = sym (append-nil (map standing_extension walk.extensions.items));
-}
 
 -- what is behind what was there
 behind : {X : Type 0} (a b c xs ys : List X) → b ≡ a ++ xs → c ≡ b ++ ys → c ≡ a ++ (xs ++ ys)
@@ -94,18 +86,6 @@ parts_are m = ap parts_seen (message_view_is m)
 
 -- ---- files
 
-pub walks_all : (start walk : Walk) (files : List FileDescriptor)
-    → map standing_message start.messages.items ≡ []
-    → map standing_enum start.enums.items ≡ []
-    → map standing_extension start.extensions.items ≡ []
-    → WalkAdds start walk (all_messages files) (all_enums files) (all_extensions files)
-    → Walks files walk
-walks_all start walk files m e x adds = record {
-  messages = adds.messages ∙ ap (λ z. z ++ all_messages files) m;
-  enums = adds.enums ∙ ap (λ z. z ++ all_enums files) e;
-  extensions = adds.extensions ∙ ap (λ z. z ++ all_extensions files) x;
-}
-
 -- a message, what stands in it, and the messages inside it
 pub message_walked : (path scope name : Text) (m : DescriptorProto) (old a b new : Walk)
     (es : List EnumDescriptor) (xs : List FieldDescriptor) (inside : List DescriptorProto)
@@ -149,52 +129,4 @@ message_pushed path name m old a pushed e x = record {
       ∙ sym (append-nil (map standing_extension old.extensions.items));
 }
 
--- a file: its messages, and then what stands in it outside of them
-pub file_walked : (file : FileDescriptor) (path scope : Text) (ms : List MessageDescriptor)
-    (es : List EnumDescriptor) (xs : List FieldDescriptor) (old mid new : Walk)
-    → path ≡ path_of file → scope ≡ package_scope file.«package»
-    → ms ≡ file.message_type → es ≡ file.enum_type → xs ≡ file.extension
-    → WalkAddsMessages old mid (flat_map (message_within path scope) ms)
-    → WalkAdds mid new [] (enums_within path scope es) (extensions_within path scope xs)
-    → WalkAdds old new (messages_of file) (enums_of file) (extensions_of file)
-file_walked file path scope ms es xs old mid new p s m e x first second =
-    let found = flat_map (message_within path scope) ms in
-    let same : found ≡ messages_of file =
-    ap (λ (q : Text). flat_map (message_within q scope) ms) p
-    ∙ ap (λ (q : Text). flat_map (message_within (path_of file) q) ms) s
-    ∙ ap (flat_map (message_within (path_of file) (package_scope file.«package»))) m in
-    walk_adds_alike old new (found ++ []) (messages_of file) _ _ _ _
-    (walk_adds_more old mid new found [] _ _ _ _ first second)
-    (append-nil found ∙ same)
-    (ap (λ (fs : List (Standing MessageDescriptor)). flat_map enums_inside fs
-    ++ enums_within path scope es) same
-    ∙ ap (λ (rest : List (Standing EnumDescriptor)). flat_map enums_inside (messages_of file)
-    ++ rest)
-    (ap (λ (q : Text). enums_within q scope es) p
-    ∙ ap (λ (q : Text). enums_within (path_of file) q es) s
-    ∙ ap (enums_within (path_of file) (package_scope file.«package»)) e))
-    (ap (λ (fs : List (Standing MessageDescriptor)). flat_map extensions_inside fs
-    ++ extensions_within path scope xs) same
-    ∙ ap (λ (rest : List (Standing FieldDescriptor)).
-    flat_map extensions_inside (messages_of file) ++ rest)
-    (ap (λ (q : Text). extensions_within q scope xs) p
-    ∙ ap (λ (q : Text). extensions_within (path_of file) q xs) s
-    ∙ ap (extensions_within (path_of file) (package_scope file.«package»)) x))
-
 -- ---- one file more
-
-pub files_more : (start mid new : Walk) (files : List FileDescriptorProto) (i : ℕ)
-    (file : FileDescriptorProto) → i < length files → file ≡ get_or files i file
-    → WalkAdds start mid (all_messages (map file_view (take i files)))
-    (all_enums (map file_view (take i files))) (all_extensions (map file_view (take i files)))
-    → WalkAdds mid new (messages_of (file_view file)) (enums_of (file_view file))
-    (extensions_of (file_view file))
-    → WalkAdds start new (all_messages (map file_view (take (i + 1) files)))
-    (all_enums (map file_view (take (i + 1) files)))
-    (all_extensions (map file_view (take (i + 1) files)))
-files_more start mid new files i file lt is first second =
-    walk_adds_alike start new _ _ _ _ _ _
-    (walk_adds_more start mid new _ _ _ _ _ _ first second)
-    (sym (joined_one_more messages_of file_view files i file lt is))
-    (sym (joined_one_more enums_of file_view files i file lt is))
-    (sym (joined_one_more extensions_of file_view files i file lt is))

@@ -5,3 +5,4 @@ pub mod Words
 pub mod Options
 pub mod Kept
 pub mod Keeping
+pub mod Puts

@@ -3,7 +3,8 @@
 ghost use Rattle.std.specs.Prelude.{◌≡◌, List, ℕ, OnOk, IfOk, bytes_eq, slice_get, string_bytes};
 ghost use Rattle.std.specs.BTreeMap.{get_by_text};
 ghost use Rattle.std.specs.Option.{option_and_then, option_copied};
-ghost use Rattle.protobuf_parse_index.specs.Kept.{PutsPosition, first_at};
+ghost use Rattle.protobuf_parse_index.specs.Kept.{first_at};
+ghost use Rattle.protobuf_parse_index.specs.Puts.{PutsPosition};
 ghost use Rattle.protobuf_parse_index.specs.declared.declared.Declared.{Declared};
 
 use crate::declared::Declared;

@@ -4,9 +4,11 @@
 ghost use Rattle.std.specs.Prelude.{◌≡◌, ℕ, ℤ, List, map, OnOk, IfOk, string_bytes};
 ghost use Rattle.std.specs.Option.{option_map_or};
 ghost use Rattle.protobuf_parse_model.specs.Descriptors.{enum_value_view, field_view};
-ghost use Rattle.protobuf_parse_index.specs.Kept.{HasExtensions, PutsExtended, PutsNumber};
+ghost use Rattle.protobuf_parse_index.specs.Kept.{HasExtensions};
+ghost use Rattle.protobuf_parse_index.specs.Puts.{PutsExtended, PutsNumber};
 ghost use Rattle.protobuf_parse_index.specs.Kept.{extended_at, field_at, own_fields, own_values};
-ghost use Rattle.protobuf_parse_index.specs.Kept.{PutsExtension, value_at};
+ghost use Rattle.protobuf_parse_index.specs.Kept.{value_at};
+ghost use Rattle.protobuf_parse_index.specs.Puts.{PutsExtension};
 ghost use Rattle.protobuf_parse_index.specs.Lookups.{field_with, value_with};
 ghost use Rattle.protobuf_parse_index.specs.Views.{standing_enum, standing_extension};
 ghost use Rattle.protobuf_parse_index.specs.Views.{standing_message};

@@ -3,8 +3,8 @@
 ghost use Rattle.std.specs.Prelude.{◌≡◌, ◌++◌, [], map, flat_map, OnOk, IfOk, string_bytes};
 ghost use Rattle.protobuf_parse_model.specs.Descriptors.{enum_view, field_view, file_view};
 ghost use Rattle.protobuf_parse_model.specs.Descriptors.{message_view};
-ghost use Rattle.protobuf_parse_wire.specs.Declarations.{package_scope};
-ghost use Rattle.protobuf_parse_index.specs.Kept.{WalkAdds, WalkAddsMessages, Walks};
+ghost use Rattle.protobuf_parse_index.specs.Kept.{WalkAdds, Walks};
+ghost use Rattle.protobuf_parse_index.specs.Puts.{WalkAddsMessages};
 ghost use Rattle.protobuf_parse_index.specs.Views.{standing_enum, standing_extension};
 ghost use Rattle.protobuf_parse_index.specs.Walk.{enums_of, enums_within, extensions_of};
 ghost use Rattle.protobuf_parse_index.specs.Walk.{extensions_within, message_within, messages_of};
@@ -14,6 +14,7 @@ use crate::declared::Declared;
 use protobuf_parse_model::{
     DescriptorProto, EnumDescriptorProto, FieldDescriptorProto, FileDescriptorProto,
 };
+use protobuf_parse_wire::package_scope;
 use std::alloc::{AllocError, Global};
 
 /// What the files declare, in order: each message before what stands inside it, and what stands in
@@ -49,7 +50,7 @@ fn add_file<'a>(
         (enums_of (file_view file.now)) (extensions_of (file_view file.now))) }
 {
     let path = path_of(file);
-    let scope = scope_of(alloc, file)?;
+    let scope = package_scope(alloc, file)?;
     add_messages(alloc, walk, path, &scope, &file.message_type)?;
     add_within(alloc, walk, path, &scope, &file.enum_type, &file.extension)
 }
@@ -60,16 +61,6 @@ fn path_of(file: &FileDescriptorProto) -> &str
     match &file.name {
         Some(name) => name,
         None => "",
-    }
-}
-
-/// The package, if any, after a dot.
-fn scope_of(alloc: Global, file: &FileDescriptorProto) -> Result<String, AllocError>
-    ensures { IfOk result (λ s. string_bytes s ≡ package_scope (file_view file.now).«package») }
-{
-    match &file.package {
-        Some(package) => format!(in alloc; ".{package}"),
-        None => Ok(String::new(alloc)),
     }
 }
 

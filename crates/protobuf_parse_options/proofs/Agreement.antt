@@ -1,6 +1,6 @@
 -- The extensions that a tree declares stand in its descriptor.
 use Rattle.std.proofs.Common.{◌≡◌, ℕ, ◌<◌, List, [], ◌∷◌, ◌++◌, map, flat_map, length, Option, Some}
-use Rattle.std.proofs.Common.{None, unwrap_or, refl, sym, ap, subst, ◌∙◌, append-nil, arith}
+use Rattle.std.proofs.Common.{None, unwrap_or, refl, ap, subst, ◌∙◌, append-nil, arith}
 use Rattle.std.proofs.lemmas.List.{map-append}
 use Rattle.std.proofs.lemmas.Grind.{flat_map-append}
 use Rattle.protobuf_parse_base.specs.Names.{absolute_text, relative_idents}
@@ -8,8 +8,7 @@ use Rattle.protobuf_parse_base.proofs.NameTexts.{absolute_text-parts, absolute_t
 use Rattle.protobuf_parse_syntax.specs.Trees.{FieldStatementSyntax, field, group}
 use Rattle.protobuf_parse_syntax.specs.Trees.{MessageStatementSyntax, message_extend}
 use Rattle.protobuf_parse_syntax.specs.Trees.{message_message, MessageStatementList, no_statements}
-use Rattle.protobuf_parse_syntax.specs.Trees.{more_statements, StatementSyntax, file_message}
-use Rattle.protobuf_parse_syntax.specs.Trees.{file_extend, nested_message, package_of}
+use Rattle.protobuf_parse_syntax.specs.Trees.{more_statements}
 use Rattle.protobuf_parse_model.specs.Statements.{field_statement_name, message_body}
 use Rattle.protobuf_parse_model.specs.Descriptors.{Text, FieldDescriptor, MessageDescriptor}
 use Rattle.protobuf_parse_model.specs.Descriptors.{messages_of_list}
@@ -20,11 +19,10 @@ use Rattle.protobuf_parse_model.specs.Environment.{Environment, env_inside}
 use Rattle.protobuf_parse_elaboration.specs.Fields.{field_statement_of}
 use Rattle.protobuf_parse_elaboration.specs.Messages as bodies
 use Rattle.protobuf_parse_elaboration.specs.Messages.{extending, message_from, nested_of, nested_in}
-use Rattle.protobuf_parse_elaboration.specs.FileDescriptor as files
 use Rattle.protobuf_parse_wire.specs.Declarations.{Declaration, name_within, declared_message}
 use Rattle.protobuf_parse_wire.specs.Declarations.{declared_messages, package_scope}
 use Rattle.protobuf_parse_wire.specs.Declarations.{extensions_within}
-use Rattle.protobuf_parse_options.specs.Agreement.{described, ExtensionsAreDescribed}
+use Rattle.protobuf_parse_options.specs.Agreement.{described}
 use Rattle.protobuf_parse_options.proofs.Options.{among_left, among_right, SplitAmong, left, right}
 use Rattle.protobuf_parse_options.proofs.Options.{split_among}
 
@@ -155,72 +153,9 @@ mutual
       (split_among (names.extensions_of env.scope s) (names.extensions_in env.scope ss) e h)
       (λ k. of_statement env s e k) (λ k. of_list env ss e k)
 
--- where each of a list has its place
-of_each : {S : Type 0} (env : Environment) (told : S → List DeclaredExtension)
-    (own : S → List FieldDescriptor) (nested : S → List MessageDescriptor)
-    → ((s : S) (e : DeclaredExtension) → Among (told s) e → InBody env (own s) (nested s) e)
-    → (ss : List S) (e : DeclaredExtension) → Among (flat_map told ss) e
-    → InBody env (flat_map own ss) (flat_map nested ss) e
-of_each env told own nested each [] e h = elim h [ ]
-of_each env told own nested each (s ∷ ss) e h =
-    at (split_among (told s) (flat_map told ss) e h) (λ k. of_each env told own nested each ss e k)
-  where
-    at : SplitAmong (told s) (flat_map told ss) e
-        → (Among (flat_map told ss) e → InBody env (flat_map own ss) (flat_map nested ss) e)
-        → InBody env (flat_map own (s ∷ ss)) (flat_map nested (s ∷ ss)) e
-    at (left k) others =
-        stands_left (absolute_text env.scope) (own s) (flat_map own ss) (nested s)
-        (flat_map nested ss) (described env e) (each s e k)
-    at (right k) others =
-        stands_right (absolute_text env.scope) (own s) (flat_map own ss) (nested s)
-        (flat_map nested ss) (described env e) (others k)
-
-of_file_statement : (env : Environment) (s : StatementSyntax) (e : DeclaredExtension)
-    → Among (names.statement_extensions env.scope s) e
-    → InBody env (files.file_extensions_of env s) (files.file_messages_of env s) e
-of_file_statement env (file_extend x) e h = its_own (in_extend env x.extendee x.fields e h)
-of_file_statement env (file_message m) e h = of_statement env (nested_message m) e h
-of_file_statement env _ e h = elim h [ ]
-
 pub package_is : (package_name : Option Text)
     → ((name : Text) → package_name ≡ Some name → 0 < length name)
     → absolute_text (relative_idents (unwrap_or package_name [])) ≡ package_scope package_name
 package_is None some = refl
 package_is (Some []) some = absurd (omega (arith, some [] refl))
 package_is (Some (b ∷ bs)) some = absolute_text-parts (b ∷ bs)
-
-pub extensions_are_described : ExtensionsAreDescribed
-extensions_are_described env path t scoped named e h =
-    let ms = flat_map (files.file_messages_of env) t.statements in
-    let own = flat_map (files.file_extensions_of env) t.statements in
-    let stands : InBody env own ms e = of_each env (names.statement_extensions env.scope)
-    (files.file_extensions_of env) (files.file_messages_of env) (of_file_statement env) t.statements
-    e
-    (subst (λ (s : Scope). Among (flat_map (names.statement_extensions s) t.statements) e)
-    (sym scoped) h) in
-    at (package_scope (package_of t)) ms own (described env e)
-    (subst (λ (s : Text). StandsIn s own ms (described env e))
-    (ap absolute_text scoped ∙ package_is (package_of t) named) stands)
-  where
-    at : (scope : Text) (ms : List MessageDescriptor) (own : List FieldDescriptor)
-        (d : Declared FieldDescriptor) → StandsIn scope own ms d
-        → Among (extensions_by (flat_map (declared_message scope) ms)
-        ++ extensions_within scope own) d
-    at scope ms own d (its_own k) =
-        among_right (extensions_by (flat_map (declared_message scope) ms)) k
-    at scope ms own d (in_one m a k) =
-        among_left (extensions_within scope own) (joined scope ms m d a k)
-      where
-        joined : (scope : Text) (ms : List MessageDescriptor) (m : MessageDescriptor)
-            (d : Declared FieldDescriptor) → Among ms m
-            → Among (extensions_by (declared_message scope m)) d
-            → Among (extensions_by (flat_map (declared_message scope) ms)) d
-        joined scope [] m d a k = elim a [ ]
-        joined scope (n ∷ ns) _ d here k =
-            rw (flat_map-append (λ (x : Declaration). extensions_within x.name x.parts.extension)
-            (declared_message scope n) (flat_map (declared_message scope) ns)) (among_left
-            (extensions_by (flat_map (declared_message scope) ns)) k)
-        joined scope (n ∷ ns) m d (there a) k =
-            rw (flat_map-append (λ (x : Declaration). extensions_within x.name x.parts.extension)
-            (declared_message scope n) (flat_map (declared_message scope) ns)) (among_right
-            (extensions_by (declared_message scope n)) (joined scope ns m d a k))

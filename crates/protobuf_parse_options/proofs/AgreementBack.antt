@@ -1,5 +1,5 @@
 -- The extensions of a descriptor are those that its tree declares.
-use Rattle.std.proofs.Common.{◌≡◌, List, [], ◌∷◌, ◌++◌, map, flat_map, refl, sym, ap, subst, ◌∙◌}
+use Rattle.std.proofs.Common.{◌≡◌, List, [], ◌∷◌, ◌++◌, map, flat_map, refl, sym, ap, subst}
 use Rattle.std.proofs.lemmas.Grind.{flat_map-append}
 use Rattle.protobuf_parse_base.specs.Names.{absolute_text}
 use Rattle.protobuf_parse_syntax.specs.Trees.{TypeSyntax, scalar, map_of, named}
@@ -7,29 +7,26 @@ use Rattle.protobuf_parse_syntax.specs.Trees.{FieldStatementSyntax, field, group
 use Rattle.protobuf_parse_syntax.specs.Trees.{MessageStatementSyntax, message_extend}
 use Rattle.protobuf_parse_syntax.specs.Trees.{message_message, message_field, message_oneof}
 use Rattle.protobuf_parse_syntax.specs.Trees.{MessageStatementList, no_statements, more_statements}
-use Rattle.protobuf_parse_syntax.specs.Trees.{StatementSyntax, file_message, file_extend}
-use Rattle.protobuf_parse_syntax.specs.Trees.{nested_message, package_of}
 use Rattle.protobuf_parse_model.specs.Statements.{field_statement_name, message_body, oneof_fields}
 use Rattle.protobuf_parse_model.specs.Statements.{groups}
 use Rattle.protobuf_parse_model.specs.Descriptors.{Text, FieldDescriptor, MessageDescriptor}
 use Rattle.protobuf_parse_model.specs.Descriptors.{messages_of_list}
 use Rattle.protobuf_parse_model.specs.Faults.{Among, here, there}
 use Rattle.protobuf_parse_model.specs.Declarations as names
-use Rattle.protobuf_parse_model.specs.Declarations.{Scope, Declared, declare, DeclaredExtension}
+use Rattle.protobuf_parse_model.specs.Declarations.{Declared, declare, DeclaredExtension}
 use Rattle.protobuf_parse_model.specs.Environment.{Environment, env_inside}
 use Rattle.protobuf_parse_elaboration.specs.Fields.{field_statement_of}
 use Rattle.protobuf_parse_elaboration.specs.Messages as bodies
 use Rattle.protobuf_parse_elaboration.specs.Messages.{extending, messages_behind, entries_of}
 use Rattle.protobuf_parse_elaboration.specs.Messages.{message_from, nested_of, nested_in}
-use Rattle.protobuf_parse_elaboration.specs.FileDescriptor as files
 use Rattle.protobuf_parse_wire.specs.Declarations.{Declaration, name_within, declared_message}
-use Rattle.protobuf_parse_wire.specs.Declarations.{declared_messages, package_scope}
+use Rattle.protobuf_parse_wire.specs.Declarations.{declared_messages}
 use Rattle.protobuf_parse_wire.specs.Declarations.{extensions_within}
-use Rattle.protobuf_parse_options.specs.Agreement.{Comes, DescribedAreDeclared}
+use Rattle.protobuf_parse_options.specs.Agreement.{Comes}
 use Rattle.protobuf_parse_options.proofs.Options.{SplitAmong, left, right, among_left, among_right}
 use Rattle.protobuf_parse_options.proofs.Options.{split_among}
 use Rattle.protobuf_parse_options.proofs.Agreement.{extensions_by, StandsIn, its_own, in_one}
-use Rattle.protobuf_parse_options.proofs.Agreement.{within_append, scope_inside, package_is}
+use Rattle.protobuf_parse_options.proofs.Agreement.{within_append, scope_inside}
 
 abbrev declared_in_extend : Environment → Text → FieldStatementSyntax → DeclaredExtension
 declared_in_extend env extendee f =
@@ -216,46 +213,3 @@ mutual
       (flat_map (bodies.extended_of env) (message_body ss)) (nested_of env s)
       (nested_in env ss) d p)
       (λ k. from_statement env s d k) (λ k. from_list env ss d k)
-
-from_each : {S : Type 0} (env : Environment) (told : S → List DeclaredExtension)
-    (own : S → List FieldDescriptor) (nested : S → List MessageDescriptor)
-    → ((s : S) (d : Declared FieldDescriptor) → Stands env (own s) (nested s) d
-    → Comes env (told s) d)
-    → (ss : List S) (d : Declared FieldDescriptor)
-    → Stands env (flat_map own ss) (flat_map nested ss) d → Comes env (flat_map told ss) d
-from_each env told own nested each [] d (its_own h) = elim h [ ]
-from_each env told own nested each [] d (in_one m a h) = elim a [ ]
-from_each env told own nested each (s ∷ ss) d p =
-    joined env (told s) (flat_map told ss) d _ _
-    (split_placed (absolute_text env.scope) (own s) (flat_map own ss) (nested s)
-    (flat_map nested ss) d p)
-    (λ k. each s d k) (λ k. from_each env told own nested each ss d k)
-
-from_file_statement : (env : Environment) (s : StatementSyntax) (d : Declared FieldDescriptor)
-    → Stands env (files.file_extensions_of env s) (files.file_messages_of env s) d
-    → Comes env (names.statement_extensions env.scope s) d
-from_file_statement env (file_extend x) d (its_own h) = from_extend env x.extendee x.fields d h
-from_file_statement env (file_extend x) d (in_one m a h) =
-    absurd (none_behind_all env (flat_map groups x.fields) (absolute_text env.scope) m d a h)
-from_file_statement env (file_message m) d p = from_statement env (nested_message m) d p
-from_file_statement env _ d (its_own h) = elim h [ ]
-from_file_statement env _ d (in_one m a h) = elim a [ ]
-
-pub described_are_declared : DescribedAreDeclared
-described_are_declared env path t scoped has_name d h =
-    let ms = flat_map (files.file_messages_of env) t.statements in
-    let own = flat_map (files.file_extensions_of env) t.statements in
-    let stands : Stands env own ms d = subst (λ (s : Text). StandsIn s own ms d)
-    (sym (ap absolute_text scoped ∙ package_is (package_of t) has_name))
-    (at (package_scope (package_of t)) ms own
-    (split_among (extensions_by (flat_map (declared_message (package_scope (package_of t))) ms))
-    (extensions_within (package_scope (package_of t)) own) d h)) in
-    subst (λ (s : Scope). Comes env (flat_map (names.statement_extensions s) t.statements) d) scoped
-    (from_each env (names.statement_extensions env.scope) (files.file_extensions_of env)
-    (files.file_messages_of env) (from_file_statement env) t.statements d stands)
-  where
-    at : (scope : Text) (ms : List MessageDescriptor) (own : List FieldDescriptor)
-        → SplitAmong (extensions_by (flat_map (declared_message scope) ms))
-        (extensions_within scope own) d → StandsIn scope own ms d
-    at scope ms own (left k) = let o = held_by scope ms d k in in_one o.0 o.1 o.2
-    at scope ms own (right k) = its_own k

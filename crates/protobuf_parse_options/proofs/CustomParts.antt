@@ -7,6 +7,7 @@ use Rattle.std.proofs.Math.Bool.{or-false}
 use Rattle.std.proofs.lemmas.List.{map-append}
 use Rattle.std.proofs.lemmas.List.Folds.{list_any-append}
 use Rattle.protobuf_parse_syntax.specs.Trees as tree
+use Rattle.protobuf_parse_syntax.specs.InnerViews.{message_statement_syntax}
 use Rattle.protobuf_parse_syntax.specs.Trees.{OptionSyntax, FieldStatementSyntax, field, group}
 use Rattle.protobuf_parse_syntax.specs.Trees.{OneofStatementSyntax, oneof_option, oneof_field}
 use Rattle.protobuf_parse_syntax.specs.Trees.{EnumStatementSyntax, enum_option, enum_value}
@@ -33,7 +34,7 @@ use Rattle.protobuf_parse_syntax.specs.declared.tree.option.ProtobufOption.{Prot
 use Rattle.protobuf_parse_model.specs.Statements.{group_body, message_body, oneof_fields}
 use Rattle.protobuf_parse_model.specs.Statements.{oneof_statement_options}
 use Rattle.protobuf_parse_model.specs.Declarations.{Scope, inside, file_scope}
-use Rattle.protobuf_parse_model.proofs.Tables.{flat_map-inside}
+use Rattle.protobuf_parse_model.proofs.DeclaredAt.{flat_map-inside}
 use Rattle.protobuf_parse_elaboration.specs.Enums.{enum_values, options_in_enum}
 use Rattle.protobuf_parse_elaboration.specs.Services.{methods_in, options_in_service}
 use Rattle.protobuf_parse_elaboration.specs.Services.{statement_option}
@@ -289,13 +290,13 @@ services_any xs = any_seen part.custom_in_service tree.service_statement_syntax 
 -- a message
 pub message_custom : (m : Message)
     → part.custom_in_message (nested_message (tree.message_syntax m))
-    ≡ list_any part.custom_in_message (map tree.message_statement_syntax m.body.items)
+    ≡ list_any part.custom_in_message (map message_statement_syntax m.body.items)
 message_custom m =
     custom_in_statements (tree.message_syntax m).body
     ∙ ap (λ (x : MessageSyntax). list_any part.custom_in_message x.body) (view_parts m)
 
 -- one that stands in a message
 pub nested_custom : (m : Message)
-    → part.custom_in_message (tree.message_statement_syntax (statement.Message m))
-    ≡ list_any part.custom_in_message (map tree.message_statement_syntax m.body.items)
+    → part.custom_in_message (message_statement_syntax (statement.Message m))
+    ≡ list_any part.custom_in_message (map message_statement_syntax m.body.items)
 nested_custom m = ap part.custom_in_message (views_message m) ∙ message_custom m

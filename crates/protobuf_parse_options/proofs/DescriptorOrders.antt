@@ -36,8 +36,8 @@ use Rattle.protobuf_parse_options.specs.CustomFaults.{custom_statement_faults}
 use Rattle.protobuf_parse_wire.specs.Encoded.{encoded}
 use Rattle.protobuf_parse_options.specs.OptionBytes.{known_customs, option_bytes}
 use Rattle.protobuf_parse_options.specs.SameLookups.{SameLookups}
-use Rattle.protobuf_parse_options.specs.NamesAlike.{message_names, enum_names, described_types}
-use Rattle.protobuf_parse_options.specs.NamesAlike.{described_extensions}
+use Rattle.protobuf_parse_options.specs.CountedAlike.{message_names, enum_names, described_types}
+use Rattle.protobuf_parse_options.specs.CountedAlike.{described_extensions}
 use Rattle.protobuf_parse_options.specs.DescriptorsByPath.{Environments, described_at}
 use Rattle.protobuf_parse_options.specs.DescriptorsByPath.{descriptors_at}
 use Rattle.protobuf_parse_options.specs.DescriptorsByPath.{HasFileScopes, HaveSameMembers}

@@ -33,7 +33,8 @@ use Rattle.protobuf_parse_wire.specs.Declarations.{declared_message, declared_me
 use Rattle.protobuf_parse_wire.specs.Declarations.{messages_declared_in, extensions_within}
 use Rattle.protobuf_parse_wire.specs.Declarations.{messages_named, messages_with_name}
 use Rattle.protobuf_parse_wire.specs.Declarations.{extensions_extending, extends}
-use Rattle.protobuf_parse_options.specs.NamesAlike.{HasPackageName, message_names, enum_names}
+use Rattle.protobuf_parse_options.specs.NamesAlike.{HasPackageName}
+use Rattle.protobuf_parse_options.specs.CountedAlike.{message_names, enum_names}
 use Rattle.protobuf_parse_options.specs.OptionFields.{fields_of_message}
 use Rattle.protobuf_parse_options.specs.OptionLaw.{IsEntered, fields_at}
 use Rattle.protobuf_parse_options.specs.DescriptorsByPath.{Environments, described_at}

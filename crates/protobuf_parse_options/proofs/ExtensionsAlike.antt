@@ -26,7 +26,7 @@ use Rattle.protobuf_parse_elaboration.specs.FileDescriptor as files
 use Rattle.protobuf_parse_elaboration.proofs.Orders.{count-append}
 use Rattle.protobuf_parse_wire.specs.Declarations.{Declaration, name_within, declared_message}
 use Rattle.protobuf_parse_wire.specs.Declarations.{package_scope, extensions_within}
-use Rattle.protobuf_parse_options.specs.NamesAlike.{ExtensionsAreCountedAlike}
+use Rattle.protobuf_parse_options.specs.CountedAlike.{ExtensionsAreCountedAlike}
 use Rattle.protobuf_parse_options.proofs.Agreement.{scope_inside, package_is}
 use Rattle.protobuf_parse_options.proofs.AgreementBack.{nested_are}
 use Rattle.protobuf_parse_options.proofs.NamesAlike.{told_within, told-append}

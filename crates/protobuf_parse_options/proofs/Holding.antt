@@ -21,15 +21,19 @@ use Rattle.protobuf_parse_options.specs.declared.spots.Spot.{Spot}
 use Rattle.protobuf_parse_options.specs.ByName.{named}
 use Rattle.protobuf_parse_wire.specs.Declarations.{Declaration, messages_declared_in}
 use Rattle.protobuf_parse_wire.specs.Declarations.{messages_named}
-use Rattle.protobuf_parse_options.specs.Holding.{AddsSpots, Picks, SpotView, at_spot, at_spots}
-use Rattle.protobuf_parse_options.specs.Holding.{beside}
-use Rattle.protobuf_parse_options.specs.Holding.{file_numbered, files_seen, inside_of, spotted_view}
-use Rattle.protobuf_parse_options.specs.Holding.{spot_in, spot_of, spot_view, spots_in}
-use Rattle.protobuf_parse_options.specs.Holding.{spots_of_list}
+use Rattle.protobuf_parse_options.specs.Holding.{Picks, SpotView}
+use Rattle.protobuf_parse_options.specs.HoldingParts.{AddsSpots, at_spot, at_spots}
+use Rattle.protobuf_parse_options.specs.HoldingParts.{beside}
+use Rattle.protobuf_parse_options.specs.Holding.{files_seen}
+use Rattle.protobuf_parse_options.specs.HoldingParts.{file_numbered, inside_of, spotted_view}
+use Rattle.protobuf_parse_options.specs.Holding.{spot_in, spot_view, spots_in}
+use Rattle.protobuf_parse_options.specs.HoldingParts.{spot_of}
+use Rattle.protobuf_parse_options.specs.HoldingParts.{spots_of_list}
 use Rattle.protobuf_parse_options.specs.Holding.{spots_in_files, spots_under}
 use Rattle.protobuf_parse_base.specs.Multimaps.{values_under}
 use Rattle.protobuf_parse_model.specs.Descriptors.{parts_seen}
-use Rattle.protobuf_parse_options.specs.Spots.{Inside, SpottedView, one_inside, spotted_messages}
+use Rattle.protobuf_parse_options.specs.Spots.{Inside, SpottedView, spotted_messages}
+use Rattle.protobuf_parse_options.specs.SpotsInside.{one_inside}
 use Rattle.protobuf_parse_wire.proofs.Adding.{messages_named-append}
 use Rattle.protobuf_parse_options.proofs.Found.{mapped_rest}
 use Rattle.protobuf_parse_options.proofs.Spotting.{StandsIn, declared_of, message_of}

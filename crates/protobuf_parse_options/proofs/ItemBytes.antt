@@ -15,7 +15,8 @@ use Rattle.protobuf_parse_wire.specs.declared.entry.EntryValue.TheVariants.{Byte
 use Rattle.protobuf_parse_wire.specs.Encoded.{delimited, payload, varint_of}
 use Rattle.protobuf_parse_wire.specs.Kinds.{kind_of_field_type, shape_of_kind, wire_type}
 use Rattle.protobuf_parse_wire.specs.Trees as trees
-use Rattle.protobuf_parse_wire.specs.Views.{WireItem, entries_of_list, entry_value_view}
+use Rattle.protobuf_parse_wire.specs.Views.{WireItem, entries_of_list}
+use Rattle.protobuf_parse_wire.specs.ViewParts.{entry_value_view}
 use Rattle.protobuf_parse_options.specs.CustomOptions.{item_of_message}
 use Rattle.protobuf_parse_options.specs.Given.{bytes_of_items}
 

@@ -28,7 +28,8 @@ use Rattle.protobuf_parse_elaboration.specs.FileDescriptor as files
 use Rattle.protobuf_parse_elaboration.specs.FileDescriptor.{file_of}
 use Rattle.protobuf_parse_elaboration.proofs.Orders.{count-append}
 use Rattle.protobuf_parse_wire.specs.Declarations.{Declaration, name_within, declared_message}
-use Rattle.protobuf_parse_options.specs.NamesAlike.{message_names, HasPackageName}
+use Rattle.protobuf_parse_options.specs.NamesAlike.{HasPackageName}
+use Rattle.protobuf_parse_options.specs.CountedAlike.{message_names}
 use Rattle.protobuf_parse_options.proofs.Agreement.{scope_inside, package_is}
 use Rattle.protobuf_parse_options.proofs.AgreementBack.{nested_are}
 

@@ -29,7 +29,7 @@ use Rattle.protobuf_parse_elaboration.proofs.Orders.{count-append}
 use Rattle.protobuf_parse_wire.specs.Declarations.{Declaration, name_within, declared_message}
 use Rattle.protobuf_parse_wire.specs.Declarations.{package_scope}
 use Rattle.protobuf_parse_options.specs.OptionFields.{enum_in}
-use Rattle.protobuf_parse_options.specs.NamesAlike.{TypesAreCountedAlike}
+use Rattle.protobuf_parse_options.specs.CountedAlike.{TypesAreCountedAlike}
 use Rattle.protobuf_parse_options.proofs.Agreement.{scope_inside, package_is}
 use Rattle.protobuf_parse_options.proofs.AgreementBack.{nested_are}
 

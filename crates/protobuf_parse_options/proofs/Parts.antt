@@ -6,7 +6,8 @@ use Rattle.std.specs.Global.{Vec}
 use Rattle.std.proofs.lemmas.List.{take_all}
 use Rattle.protobuf_parse_syntax.specs.Trees.{ConstantSyntax, ConstantFieldSyntax, list, fields}
 use Rattle.protobuf_parse_syntax.specs.Trees.{constants, constant_fields, constant_syntax}
-use Rattle.protobuf_parse_syntax.specs.Trees.{constant_field_syntax, option_part_syntax}
+use Rattle.protobuf_parse_syntax.specs.Trees.{option_part_syntax}
+use Rattle.protobuf_parse_syntax.specs.InnerViews.{constant_field_syntax}
 use Rattle.protobuf_parse_syntax.specs.declared.tree.option.ProtobufOptionNamePart.{ProtobufOptionNamePart}
 use Rattle.protobuf_parse_syntax.specs.declared.tree.constant.ConstantField.{ConstantField}
 use Rattle.protobuf_parse_syntax.specs.declared.tree.constant.ProtobufConstant.{ProtobufConstant}

@@ -12,7 +12,8 @@ use Rattle.protobuf_parse_model.specs.Descriptors.{FileDescriptor}
 use Rattle.protobuf_parse_model.proofs.Scopes.{searched-any}
 use Rattle.protobuf_parse_model.proofs.Picks.{Rises, rises}
 use Rattle.protobuf_parse_options.specs.declared.spots.picked.PickedFiles.{PickedFiles}
-use Rattle.protobuf_parse_options.specs.Holding.{beside, file_numbered, files_under, option_join}
+use Rattle.protobuf_parse_options.specs.Holding.{files_under}
+use Rattle.protobuf_parse_options.specs.HoldingParts.{beside, file_numbered, option_join}
 
 above : (k : ℕ) (ns : List ℕ) (i : ℕ) → Rises k ns → i < length ns → k ≤ get_or ns i 0
 above k [] i h lt = absurd (omega arith)

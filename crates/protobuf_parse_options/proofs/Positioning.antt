@@ -11,18 +11,22 @@ use Rattle.protobuf_parse_model.specs.Descriptors.{EnumDescriptor}
 use Rattle.protobuf_parse_model.specs.Descriptors.{MessageDescriptor}
 use Rattle.protobuf_parse_options.specs.declared.spots.picked.PickedFiles.{PickedFiles}
 use Rattle.protobuf_parse_options.specs.ByName.{values_of_all}
-use Rattle.protobuf_parse_options.specs.Holding.{Picks, SpotView, at_spot, at_spots, field_there}
-use Rattle.protobuf_parse_options.specs.Holding.{found_by}
-use Rattle.protobuf_parse_options.specs.Holding.{inside_of, number_there, spot_in}
+use Rattle.protobuf_parse_options.specs.Holding.{Picks, SpotView}
+use Rattle.protobuf_parse_options.specs.HoldingParts.{at_spot, at_spots, field_there}
+use Rattle.protobuf_parse_options.specs.HoldingParts.{found_by}
+use Rattle.protobuf_parse_options.specs.Holding.{spot_in}
+use Rattle.protobuf_parse_options.specs.HoldingParts.{inside_of, number_there}
 use Rattle.protobuf_parse_options.specs.Holding.{spots_in, spots_in_files}
 use Rattle.protobuf_parse_options.specs.Views.{field_among, number_among}
 use Rattle.protobuf_parse_options.specs.Spots.{Inside, SpottedView, enums_inside, field_name}
-use Rattle.protobuf_parse_options.specs.Spots.{messages_inside, one_inside}
-use Rattle.protobuf_parse_options.specs.Positions.{most_walked, field_inside, field_names}
+use Rattle.protobuf_parse_options.specs.SpotsInside.{messages_inside, one_inside}
+use Rattle.protobuf_parse_options.specs.Positions.{most_walked, field_names}
+use Rattle.protobuf_parse_options.specs.Positioned.{field_inside}
 use Rattle.protobuf_parse_options.specs.Positions.{kept_position, name_of_value}
-use Rattle.protobuf_parse_options.specs.Positions.{number_inside, part_in, position_from}
+use Rattle.protobuf_parse_options.specs.Positions.{position_from}
+use Rattle.protobuf_parse_options.specs.Positioned.{number_inside, part_in}
 use Rattle.protobuf_parse_options.specs.Positions.{value_names}
-use Rattle.protobuf_parse_options.specs.Positions.{value_number}
+use Rattle.protobuf_parse_options.specs.Positioned.{value_number}
 use Rattle.protobuf_parse_options.proofs.ByName.{fields_more, fields_of, values_more}
 use Rattle.protobuf_parse_options.proofs.Holding.{numbered_is}
 use Rattle.protobuf_parse_options.proofs.Spotting.{Rest, StandsIn, all_rest, rest_first, rest_next}

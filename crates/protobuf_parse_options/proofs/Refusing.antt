@@ -94,10 +94,6 @@ pub unless_empty : (fs : List Fault) (bytes : List ℕ) → bytes ≡ [] → byt
 unless_empty [] bytes e = e
 unless_empty (f ∷ fs) bytes e = refl
 
-pub unless_some : (fs : List Fault) (bytes : List ℕ) → 0 < length fs → bytes_unless fs bytes ≡ []
-unless_some [] bytes h = absurd (omega arith)
-unless_some (f ∷ fs) bytes h = refl
-
 -- ---- how many faults were told
 
 length_told : (olds news : List ElabError) (fs : List Fault)

@@ -12,7 +12,7 @@ use Rattle.protobuf_parse_model.specs.Declarations.{Declared}
 use Rattle.protobuf_parse_model.specs.Descriptors.{Text, EnumDescriptor, EnumValueDescriptor}
 use Rattle.protobuf_parse_model.specs.Descriptors.{FileDescriptor}
 use Rattle.protobuf_parse_options.specs.declared.spots.declared.Spotted.{Spotted}
-use Rattle.protobuf_parse_options.specs.Holding.{enums_spotted}
+use Rattle.protobuf_parse_options.specs.HoldingParts.{enums_spotted}
 use Rattle.protobuf_parse_options.specs.Spots.{spotted_enums}
 use Rattle.protobuf_parse_options.specs.Views.{enum_declared, number_among, values_among}
 use Rattle.protobuf_parse_options.specs.Views.{values_if_named}

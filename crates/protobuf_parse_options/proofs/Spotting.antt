@@ -10,8 +10,9 @@ use Rattle.protobuf_parse_model.specs.Descriptors.{Text, FileDescriptor, Message
 use Rattle.protobuf_parse_model.specs.Descriptors.{MessageDescriptor, MessageDescriptors, a_message}
 use Rattle.protobuf_parse_model.specs.Descriptors.{no_messages, messages, messages_of_list}
 use Rattle.protobuf_parse_model.specs.Descriptors.{messages_list}
-use Rattle.protobuf_parse_model.specs.Descriptors.{list_of_is, message_parts, message_view}
-use Rattle.protobuf_parse_model.specs.Descriptors.{message_view_is}
+use Rattle.protobuf_parse_model.specs.Descriptors.{message_parts, message_view}
+use Rattle.protobuf_parse_model.proofs.Levels.{list_of_is}
+use Rattle.protobuf_parse_model.proofs.Levels.{message_view_is}
 use Rattle.protobuf_parse_model.specs.declared.descriptor.DescriptorProto.{DescriptorProto}
 use Rattle.protobuf_parse_model.specs.declared.descriptor.DescriptorProto.{out-DescriptorProto}
 use Rattle.protobuf_parse_wire.specs.Declarations.{Declaration, declared_extensions}
@@ -19,10 +20,12 @@ use Rattle.protobuf_parse_wire.specs.Declarations.{messages_declared_in}
 use Rattle.protobuf_parse_wire.specs.Declarations.{declared_message, declared_messages}
 use Rattle.protobuf_parse_wire.specs.Declarations.{package_scope, name_within}
 use Rattle.protobuf_parse_options.specs.OptionFields.{declared_enums}
-use Rattle.protobuf_parse_options.specs.Spots.{Inside, SpottedView, down, enum_name, enums_inside}
+use Rattle.protobuf_parse_options.specs.Spots.{Inside, SpottedView, enum_name, enums_inside}
+use Rattle.protobuf_parse_options.specs.SpotsInside.{down}
 use Rattle.protobuf_parse_options.specs.Spots.{extensions_inside, field_name, inside_file}
-use Rattle.protobuf_parse_options.specs.Spots.{inside_message, messages_inside, next_inside}
-use Rattle.protobuf_parse_options.specs.Spots.{one_inside}
+use Rattle.protobuf_parse_options.specs.Spots.{inside_message}
+use Rattle.protobuf_parse_options.specs.SpotsInside.{messages_inside, next_inside}
+use Rattle.protobuf_parse_options.specs.SpotsInside.{one_inside}
 use Rattle.protobuf_parse_options.specs.Spots.{path_to, spotted_each, spotted_enums}
 use Rattle.protobuf_parse_options.specs.Spots.{spotted_extensions}
 use Rattle.protobuf_parse_options.specs.Spots.{spotted_in, spotted_inside, spotted_list}

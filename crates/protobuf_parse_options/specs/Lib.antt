@@ -20,3 +20,8 @@ pub mod SmallValues
 pub mod Spots
 pub mod Views
 pub mod WithoutOptions
+pub mod HoldingParts
+pub mod CountedAlike
+pub mod IntegerKinds
+pub mod Positioned
+pub mod SpotsInside

@@ -146,8 +146,3 @@ type_takes types.Message = messages
 type_takes types.Float = floats
 type_takes types.Double = floats
 type_takes types.Group = groups
-
--- the kind of the integers that are taken, where any are
-abbrev pub integer_kind : Takes → Option Kind
-integer_kind (integers k) = Some k
-integer_kind other = None

@@ -1,6 +1,5 @@
 -- Where in a file its messages, enums and extensions stand, and what stands at such a spot.
-use Rattle.std.specs.Prelude.{ℕ, suc, List, [], ◌∷◌, ◌++◌, flat_map, Option, Some, None, option_map}
-use Rattle.std.specs.Prelude.{slice_get}
+use Rattle.std.specs.Prelude.{ℕ, suc, List, [], ◌∷◌, ◌++◌, flat_map}
 use Rattle.protobuf_parse_model.specs.Descriptors.{Text, FileDescriptor, FieldDescriptor}
 use Rattle.protobuf_parse_model.specs.Descriptors.{EnumDescriptor, MessageDescriptor}
 use Rattle.protobuf_parse_model.specs.Descriptors.{MessageDescriptors, a_message, no_messages}
@@ -28,21 +27,6 @@ inside_file file = record {
   enums = file.enum_type;
   extensions = file.extension;
 }
-
--- what stands in the message with this number
-abbrev pub next_inside : Option Inside → ℕ → Option Inside
-next_inside None index = None
-next_inside (Some inside) index = option_map inside_message (slice_get inside.messages index)
-
--- A path has the number of a message in its list, then that of a message in it, and so on.
-abbrev pub down : Option Inside → List ℕ → Option Inside
-down inside [] = inside
-down inside (index ∷ path) = down (next_inside inside index) path
-
--- one of these with this number
-abbrev pub one_inside : {T : Type 0} → (Inside → List T) → Option Inside → ℕ → Option T
-one_inside list None index = None
-one_inside list (Some inside) index = slice_get (list inside) index
 
 -- ---- with their spots
 
@@ -118,9 +102,6 @@ enums_inside inside = inside.enums
 
 abbrev pub extensions_inside : Inside → List FieldDescriptor
 extensions_inside inside = inside.extensions
-
-abbrev pub messages_inside : Inside → List MessageDescriptor
-messages_inside inside = inside.messages
 
 abbrev pub spotted_enums : FileDescriptor → List (SpottedView EnumDescriptor)
 spotted_enums file = spotted_in enum_name enums_inside file

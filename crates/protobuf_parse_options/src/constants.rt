@@ -2,7 +2,8 @@
 
 ghost use Rattle.std.specs.Prelude.{◌++◌, map, flat_map, unwrap_or, []};
 ghost use Rattle.protobuf_parse_lexer.specs.Decoder.{decode};
-ghost use Rattle.protobuf_parse_syntax.specs.Trees.{constant_field_syntax, constant_syntax, dotted};
+ghost use Rattle.protobuf_parse_syntax.specs.Trees.{constant_syntax, dotted};
+ghost use Rattle.protobuf_parse_syntax.specs.InnerViews.{constant_field_syntax};
 ghost use Rattle.protobuf_parse_syntax.specs.Trees.{pieces_of};
 ghost use Rattle.protobuf_parse_model.specs.Descriptors.{field_view};
 ghost use Rattle.protobuf_parse_wire.specs.Trees as trees;

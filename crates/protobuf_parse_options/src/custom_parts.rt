@@ -3,6 +3,7 @@
 ghost use Rattle.std.specs.Prelude.{◌≡◌, Bool, map};
 ghost use Rattle.std.specs.List.{list_any};
 ghost use Rattle.protobuf_parse_syntax.specs.Trees as view;
+ghost use Rattle.protobuf_parse_syntax.specs.InnerViews.{message_statement_syntax};
 ghost use Rattle.protobuf_parse_elaboration.specs.CustomSets.{is_custom, sets_custom};
 ghost use Rattle.protobuf_parse_options.specs.CustomParts as part;
 ghost use Rattle.protobuf_parse_elaboration.specs.OptionSets.{option_sets};
@@ -63,7 +64,7 @@ impl MaySetCustom for OptionStatement {
 impl MaySetCustom for FieldStatement {
     ghost custom = { λ f. part.custom_in_field (view.field_statement_syntax f) };
 
-    #[tactic(auto, using(crate::proofs::CustomParts::options_any, protobuf_parse_syntax::proofs::FieldViews::views_plain, protobuf_parse_syntax::proofs::FieldViews::views_group, protobuf_parse_model::specs::Statements::group_body_is))]
+    #[tactic(auto, using(crate::proofs::CustomParts::options_any, protobuf_parse_syntax::proofs::FieldViews::views_plain, protobuf_parse_syntax::proofs::FieldViews::views_group, protobuf_parse_model::proofs::Levels::group_body_is))]
     #[inline]
     fn has_custom(&self) -> bool {
         match self {
@@ -138,7 +139,7 @@ impl MaySetCustom for ServiceStatement {
 #[cycle(message)]
 fn custom_in_body(statements: &[MessageStatement]) -> bool
     ensures { result ≡ list_any part.custom_in_message
-        (map view.message_statement_syntax statements.now) }
+        (map message_statement_syntax statements.now) }
 {
     for statement in statements {
         if custom_in_message(statement) {
@@ -151,7 +152,7 @@ fn custom_in_body(statements: &[MessageStatement]) -> bool
 #[tactic(auto, using(crate::proofs::CustomParts::nested_custom))]
 #[cycle(message)]
 fn custom_in_message(statement: &MessageStatement) -> bool
-    ensures { result ≡ part.custom_in_message (view.message_statement_syntax statement.now) }
+    ensures { result ≡ part.custom_in_message (message_statement_syntax statement.now) }
 {
     match statement {
         MessageStatement::Field(field) => field.has_custom(),

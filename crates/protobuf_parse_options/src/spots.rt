@@ -6,7 +6,8 @@ ghost use Rattle.std.specs.Int.{w32};
 ghost use Rattle.std.specs.Int.RustNames.{FitsSigned};
 ghost use Rattle.protobuf_parse_model.specs.Descriptors.{FileDescriptor, Text, enum_value_view};
 ghost use Rattle.protobuf_parse_model.specs.Descriptors.{file_view};
-ghost use Rattle.protobuf_parse_options.specs.Holding.{AddsSpots, Holds, spots_of_list};
+ghost use Rattle.protobuf_parse_options.specs.Holding.{Holds};
+ghost use Rattle.protobuf_parse_options.specs.HoldingParts.{AddsSpots, spots_of_list};
 ghost use Rattle.protobuf_parse_options.specs.Views.{enum_declared};
 ghost use Rattle.protobuf_parse_options.specs.SmallValues.{AreSmall, HaveSmall};
 

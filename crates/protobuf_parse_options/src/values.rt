@@ -7,9 +7,11 @@ ghost use Rattle.protobuf_parse_options.specs.CustomFaults.{integer_faults, trut
 ghost use Rattle.protobuf_parse_options.specs.CustomFaults.{value_name_faults, number_faults};
 ghost use Rattle.protobuf_parse_options.specs.CustomOptions.{item_of, item_of_message};
 ghost use Rattle.protobuf_parse_options.specs.Given.{AreFit, bytes_of_items};
-ghost use Rattle.protobuf_parse_options.specs.OptionFields.{integer_kind, type_takes};
+ghost use Rattle.protobuf_parse_options.specs.OptionFields.{type_takes};
+ghost use Rattle.protobuf_parse_options.specs.IntegerKinds.{integer_kind};
 ghost use Rattle.protobuf_parse_options.specs.Refusals.{Gives, Refuses};
-ghost use Rattle.protobuf_parse_wire.specs.Views.{WireItem, entry_value_view};
+ghost use Rattle.protobuf_parse_wire.specs.Views.{WireItem};
+ghost use Rattle.protobuf_parse_wire.specs.ViewParts.{entry_value_view};
 
 use crate::refuse::{OptionFailure, not_taken, wrong};
 use protobuf_parse_model::{ElabErrorKind, FieldDescriptorProto, FieldType};

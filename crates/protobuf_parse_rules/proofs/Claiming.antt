@@ -14,9 +14,12 @@ use Rattle.std.proofs.lemmas.List.Folds.{find-append}
 use Rattle.std.proofs.lemmas.Bool.Decides.{Decides-int_eq}
 use Rattle.std.proofs.lemmas.Slice.Eq.{bytes_eq-Decides}
 use Rattle.std.proofs.lemmas.Map.Text.{is_eq-slice_cmp}
-use Rattle.protobuf_parse_rules.specs.Claims.{Claim, Claims, Key, Knows, Thing, Who, first_claim}
-use Rattle.protobuf_parse_rules.specs.Claims.{Rules, conflict, conflicts, holder_view, key_cmp}
-use Rattle.protobuf_parse_rules.specs.Claims.{same_thing, taken, thing_of}
+use Rattle.protobuf_parse_rules.specs.Claims.{Claim, Thing, Who, first_claim}
+use Rattle.protobuf_parse_rules.specs.ClaimsKept.{Claims, Key, Knows}
+use Rattle.protobuf_parse_rules.specs.Claims.{Rules, conflict, conflicts}
+use Rattle.protobuf_parse_rules.specs.ClaimsKept.{holder_view, key_cmp}
+use Rattle.protobuf_parse_rules.specs.Claims.{same_thing, taken}
+use Rattle.protobuf_parse_rules.specs.ClaimsKept.{thing_of}
 use Rattle.protobuf_parse_rules.specs.Rules.{Breach, Broken, Site, breaches_at, breaches_told}
 use Rattle.protobuf_parse_rules.specs.declared.claims.Holder.{Holder}
 use Rattle.protobuf_parse_rules.specs.declared.violation.Violation.{Violation}
@@ -36,13 +39,6 @@ conflicts-append rules before (x ∷ xs) ys =
 -- what is told behind what was told
 pub told_more : (a b c xs ys : List Breach) → b ≡ a ++ xs → c ≡ b ++ ys → c ≡ a ++ (xs ++ ys)
 told_more a b c xs ys p q = q ∙ ap (λ z. z ++ ys) p ∙ append_assoc a xs ys
-
-pub claims_none : (rules : Rules) (m : BTreeMap Key Holder) (told : Vec Violation)
-    → Claims rules m m told told []
-claims_none rules m told = record {
-  at = λ before knows.
-      (subst (λ b. Knows m b) (sym (append-nil before)) knows, sym (append-nil (breaches_told told)));
-}
 
 pub claims_more : (rules : Rules) (a b c : BTreeMap Key Holder) (t u v : Vec Violation)
     (xs ys : List Claim) → Claims rules a b t u xs → Claims rules b c u v ys

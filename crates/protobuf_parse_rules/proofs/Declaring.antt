@@ -3,8 +3,9 @@ use Rattle.std.proofs.Common.{◌≡◌, pos, Bool, true, false, cond, List, [],
 use Rattle.std.proofs.Common.{◌∙◌, map, subst, Option, Some, None}
 use Rattle.std.specs.Prelude.{◌&&◌, option_map, find, bytes_eq, flat_map}
 use Rattle.protobuf_parse_model.specs.Descriptors.{Text}
-use Rattle.protobuf_parse_rules.specs.Claims.{Claim, Knows, Thing, Who, conflicts, first_claim}
-use Rattle.protobuf_parse_rules.specs.Claims.{holder_view}
+use Rattle.protobuf_parse_rules.specs.Claims.{Claim, Thing, Who, conflicts, first_claim}
+use Rattle.protobuf_parse_rules.specs.ClaimsKept.{Knows}
+use Rattle.protobuf_parse_rules.specs.ClaimsKept.{holder_view}
 use Rattle.protobuf_parse_rules.specs.Known.{Finds}
 use Rattle.protobuf_parse_rules.specs.KnownFiles.{Tells, known_file, path_named}
 use Rattle.protobuf_parse_rules.specs.Names.{Named, name_claim, name_rule, names_at, names_in_use}

@@ -8,25 +8,22 @@ use Rattle.std.specs.Ordering.{int_eq}
 use Rattle.protobuf_parse_model.specs.declared.descriptor.FieldType.{FieldType}
 use Rattle.protobuf_parse_model.specs.declared.descriptor.FieldType.TheVariants as kind
 use Rattle.protobuf_parse_model.specs.Descriptors.{FieldDescriptor, Range, Text}
-use Rattle.protobuf_parse_rules.specs.Defaults.{default_of}
 use Rattle.protobuf_parse_rules.specs.Enums.{not_zero}
-use Rattle.protobuf_parse_rules.specs.EnumUses.{default_value, enum_of_field, enum_of_proto2}
+use Rattle.protobuf_parse_rules.specs.EnumUses.{enum_of_field}
 use Rattle.protobuf_parse_rules.specs.EnumUses.{is_enum}
 use Rattle.protobuf_parse_rules.specs.EnumUses.{map_value, of_enum}
-use Rattle.protobuf_parse_rules.specs.FieldOptions.{js_type_option, lazy_option}
-use Rattle.protobuf_parse_rules.specs.FieldOptions.{packed_option}
 use Rattle.protobuf_parse_rules.specs.Limits.{limit}
 use Rattle.protobuf_parse_rules.specs.Lookups.{NamedEnum, enum_named}
 use Rattle.protobuf_parse_rules.specs.Maps.{is_entry, is_no_key}
 use Rattle.protobuf_parse_rules.specs.MessageSets.{is_message_set}
-use Rattle.protobuf_parse_rules.specs.Ordinary.{bars_nothing, is_group_or_enum, is_nil, is_ordinary}
+use Rattle.protobuf_parse_rules.specs.Ordinary.{bars_nothing, is_group_or_enum, is_nil}
 use Rattle.protobuf_parse_rules.specs.Ordinary.{keeps_nothing}
 use Rattle.protobuf_parse_rules.specs.Places.{Content, Place, extension_ranges, reserved_names}
 use Rattle.protobuf_parse_rules.specs.Places.{reserved_ranges}
-use Rattle.protobuf_parse_rules.specs.Proto3.{is_group, is_required}
+use Rattle.protobuf_parse_rules.specs.Proto3.{is_group}
 use Rattle.protobuf_parse_rules.specs.Ranges.{in_ranges, is_among}
 use Rattle.protobuf_parse_rules.specs.Rules.{Broken, Site, breaches_at, broken_by, broken_if}
-use Rattle.protobuf_parse_rules.specs.Violations.{common_rules, field_rules}
+use Rattle.protobuf_parse_rules.specs.Violations.{field_rules}
 use Rattle.protobuf_parse_rules.specs.declared.rule.Rule.{Rule}
 use Rattle.protobuf_parse_rules.specs.declared.rule.Rule.TheVariants as rule
 
@@ -92,49 +89,6 @@ module _ (all : List Place) (f : FieldDescriptor) where
   pub no_enum : (r : NamedEnum → Option Broken) → is_enum f.type_ ≡ false → of_enum all r f ≡ None
   no_enum r e = ap (λ b. option_and_then r
       (if b then option_and_then (enum_named all) f.type_name else None)) e
-
-  pub ordinary_told : (proto3 : Bool) (site : Site) → is_ordinary f ≡ true
-      → breaches_at site (common_rules all proto3 f) ≡ []
-  ordinary_told proto3 site e =
-      let front = first ((is_none f.options && is_none f.default_value) && not
-      (is_required f.label))
-      (not (is_group_or_enum f.type_)) e in
-      let kinds = other_kind f.type_ (untrue (is_group_or_enum f.type_)
-      (second ((is_none f.options && is_none f.default_value) && not (is_required f.label))
-      (not (is_group_or_enum f.type_)) e)) in
-      let both = first (is_none f.options && is_none f.default_value) (not (is_required f.label))
-      front in
-      let label = untrue (is_required f.label)
-      (second (is_none f.options && is_none f.default_value) (not (is_required f.label)) front) in
-      let options = none_is f.options (first (is_none f.options) (is_none f.default_value) both) in
-      let default = none_is f.default_value
-      (second (is_none f.options) (is_none f.default_value) both) in
-      silent site (common_rules all proto3 f) (
-        unbroken _ rule.RequiredInProto3 (and_false proto3 (is_required f.label) label),
-        (
-          unbroken _ rule.GroupInProto3 (and_false proto3 (is_group f.type_) kinds.0),
-          (
-            unbroken _ rule.DefaultInProto3 (and_false proto3 (is_some f.default_value)
-                (ap is_some default)),
-            (
-              ap (default_of f) default,
-              (
-                ap (option_and_then (packed_option f.label f.type_)) options,
-                (
-                  ap (option_and_then (lazy_option f.type_)) options,
-                  (
-                    ap (option_and_then (js_type_option f.type_)) options,
-                    (
-                      no_enum (enum_of_proto2 proto3) kinds.1,
-                      (no_enum (default_value f) kinds.1, tt),
-                    ),
-                  ),
-                ),
-              ),
-            ),
-          ),
-        ),
-      )
 
 -- ---- by the message
 

@@ -6,10 +6,12 @@ use Rattle.std.specs.BTreeMap.{BTreeMap}
 use Rattle.std.specs.Global.{Vec}
 use Rattle.std.proofs.lemmas.Grind.{flat_map-append}
 use Rattle.protobuf_parse_rules.specs.Places.{Place}
-use Rattle.protobuf_parse_rules.specs.Claims.{Claim, Claims, Key, Knows, conflicts}
+use Rattle.protobuf_parse_rules.specs.Claims.{Claim, conflicts}
+use Rattle.protobuf_parse_rules.specs.ClaimsKept.{Claims, Key, Knows}
 use Rattle.protobuf_parse_rules.specs.Numbers.{claims, number_rule}
 use Rattle.protobuf_parse_rules.specs.Rules.{breaches_told}
-use Rattle.protobuf_parse_rules.specs.Violations.{Checks, breaches_after, breaches_of_place}
+use Rattle.protobuf_parse_rules.specs.Violations.{breaches_after, breaches_of_place}
+use Rattle.protobuf_parse_rules.specs.ClaimsKept.{Checks}
 use Rattle.protobuf_parse_rules.specs.Violations.{breaches_inside}
 use Rattle.protobuf_parse_rules.specs.declared.claims.Holder.{Holder}
 use Rattle.protobuf_parse_rules.specs.declared.violation.Violation.{Violation}

@@ -3,7 +3,7 @@
 use Rattle.std.specs.Prelude.{option_map}
 use Rattle.std.specs.Borrow.{Bor}
 use Rattle.protobuf_parse_model.specs.Descriptors.{Text}
-use Rattle.protobuf_parse_rules.specs.Claims.{holder_view, spot_name}
+use Rattle.protobuf_parse_rules.specs.ClaimsKept.{holder_view, spot_name}
 use Rattle.protobuf_parse_rules.specs.Rules.{Broken, Site}
 use Rattle.protobuf_parse_rules.specs.declared.claims.Holder.{Holder}
 use Rattle.protobuf_parse_rules.specs.declared.finding.Finding.{Finding}

@@ -3,7 +3,7 @@
 use Rattle.std.specs.Prelude.{Bool, List, flat_map, map}
 use Rattle.std.specs.List.{list_any}
 use Rattle.protobuf_parse_model.specs.Descriptors.{Text, file_view}
-use Rattle.protobuf_parse_rules.specs.Claims as claims
+use Rattle.protobuf_parse_rules.specs.ClaimsKept.{Knows}
 use Rattle.protobuf_parse_rules.specs.Known.{Finds}
 use Rattle.protobuf_parse_rules.specs.Names.{name_claim, names_at}
 use Rattle.protobuf_parse_rules.specs.Places.{Place}
@@ -19,7 +19,7 @@ path_named f = f.path
 
 -- It tells of what these places declare, and of their files.
 pub record Tells (d : Declared) (all : List Place) : Type 0 where
-  pub names : claims.Knows d.first (map name_claim (flat_map names_at all))
+  pub names : Knows d.first (map name_claim (flat_map names_at all))
   pub files : Finds known_file path_named d.files (flat_map file_at all)
 
 -- a file for the lite runtime stands there

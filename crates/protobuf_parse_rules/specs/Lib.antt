@@ -41,3 +41,4 @@ pub mod KnownTables
 pub mod Findings
 pub mod Violations
 pub mod Law
+pub mod ClaimsKept

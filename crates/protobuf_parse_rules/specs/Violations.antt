@@ -1,7 +1,5 @@
 -- The violations of files, in order.
-use Rattle.std.specs.Prelude.{◌≡◌, Bool, true, false, Option, List, [], ◌∷◌, ◌++◌, flat_map}
-use Rattle.std.specs.Global.{Vec}
-use Rattle.std.specs.BTreeMap.{BTreeMap}
+use Rattle.std.specs.Prelude.{Bool, true, false, Option, List, [], ◌∷◌, ◌++◌, flat_map}
 use Rattle.protobuf_parse_model.specs.Descriptors.{Text, FileDescriptor, FieldDescriptor}
 use Rattle.protobuf_parse_wire.specs.Declarations.{name_within}
 use Rattle.protobuf_parse_rules.specs.Places.{Content, Place, places, fields_of, extensions_of}
@@ -11,7 +9,7 @@ use Rattle.protobuf_parse_rules.specs.Alike.{fields_alike}
 use Rattle.protobuf_parse_rules.specs.Repeats.{repeats}
 use Rattle.protobuf_parse_rules.specs.declared.rule.Rule.TheVariants as rule
 use Rattle.protobuf_parse_rules.specs.Defaults.{default_of}
-use Rattle.protobuf_parse_rules.specs.Claims.{Claim, Key, Knows, conflicts}
+use Rattle.protobuf_parse_rules.specs.Claims.{Claim, conflicts}
 use Rattle.protobuf_parse_rules.specs.Enums.{enum_breaches}
 use Rattle.protobuf_parse_rules.specs.EnumUses.{default_value, enum_of_proto2, map_value, of_enum}
 use Rattle.protobuf_parse_rules.specs.Extensions.{of_extendee, of_message_set, outside_ranges}
@@ -30,10 +28,8 @@ use Rattle.protobuf_parse_rules.specs.Proto3.{default_field, extended, group_fie
 use Rattle.protobuf_parse_rules.specs.Proto3.{required_field, set_in_proto3}
 use Rattle.protobuf_parse_rules.specs.Ranges.{extension_range, kept_number, reserved_name}
 use Rattle.protobuf_parse_rules.specs.Ranges.{ranges_of, reserved_number, reserved_range}
-use Rattle.protobuf_parse_rules.specs.Rules.{Breach, Broken, Site, breaches_at, breaches_told}
+use Rattle.protobuf_parse_rules.specs.Rules.{Breach, Broken, Site, breaches_at}
 use Rattle.protobuf_parse_rules.specs.Runtimes.{runtime_breaches}
-use Rattle.protobuf_parse_rules.specs.declared.claims.Holder.{Holder}
-use Rattle.protobuf_parse_rules.specs.declared.violation.Violation.{Violation}
 
 abbrev pub site_in : Place → Text → Site
 site_in p name = record { file = p.file; construct = name_within p.scope name }
@@ -139,10 +135,3 @@ breaches_among all =
 -- those of files: file by file, then the names, and then the runtimes
 abbrev pub breaches : List FileDescriptor → List Breach
 breaches files = breaches_among (flat_map places files)
-
--- The map took the claims of these places in addition, and what is wrong there was told.
-pub record Checks (all : List Place) (old new : BTreeMap Key Holder)
-    (told_before told : Vec Violation) (there : List Place) : Type 0 where
-  pub at : (before : List Claim) → Knows old before
-      → Knows new (before ++ flat_map claims there)
-      × (breaches_told told ≡ breaches_told told_before ++ breaches_after all before there)

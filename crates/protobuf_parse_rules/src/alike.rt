@@ -8,7 +8,8 @@ ghost use Rattle.protobuf_parse_model.specs.Descriptors.{EnumValueDescriptor, en
 ghost use Rattle.protobuf_parse_model.specs.Descriptors.{enum_view, field_view};
 ghost use Rattle.protobuf_parse_rules.specs.Alike as spec;
 ghost use Rattle.protobuf_parse_rules.specs.Alike.{fields_alike, spelled_claim, values_alike};
-ghost use Rattle.protobuf_parse_rules.specs.Claims.{Claims, conflicts};
+ghost use Rattle.protobuf_parse_rules.specs.Claims.{conflicts};
+ghost use Rattle.protobuf_parse_rules.specs.ClaimsKept.{Claims};
 ghost use Rattle.protobuf_parse_rules.specs.Held.{rules_of};
 ghost use Rattle.protobuf_parse_rules.specs.Keys.{spelling_keys, text_key};
 ghost use Rattle.protobuf_parse_rules.specs.KnownNames.{spelled_view};

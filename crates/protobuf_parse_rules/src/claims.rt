@@ -3,8 +3,9 @@
 ghost use Rattle.std.specs.Prelude.{◌≡◌, ◌++◌, [], ◌∷◌, List, OnOk, IfOk, option_map};
 ghost use Rattle.protobuf_parse_rules.specs.Alike.{value_alike_rule};
 ghost use Rattle.protobuf_parse_rules.specs.Claims as claims;
-ghost use Rattle.protobuf_parse_rules.specs.Claims.{Claim, Claims, Knows, first_claim};
-ghost use Rattle.protobuf_parse_rules.specs.Claims.{holder_view, thing_view};
+ghost use Rattle.protobuf_parse_rules.specs.Claims.{Claim, first_claim};
+ghost use Rattle.protobuf_parse_rules.specs.ClaimsKept.{Claims, Knows};
+ghost use Rattle.protobuf_parse_rules.specs.ClaimsKept.{holder_view, thing_view};
 ghost use Rattle.protobuf_parse_rules.specs.Findings.{finding_view, site_of};
 ghost use Rattle.protobuf_parse_rules.specs.Held.{rules_of};
 ghost use Rattle.protobuf_parse_rules.specs.Names.{name_rule};

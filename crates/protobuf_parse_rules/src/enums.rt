@@ -4,7 +4,8 @@ ghost use Rattle.std.specs.Prelude.{◌≡◌, ◌++◌, [], ◌∷◌, flat_map
 ghost use Rattle.std.specs.Prelude.{IfOk, string_bytes};
 ghost use Rattle.protobuf_parse_model.specs.Descriptors.{EnumValueDescriptor, enum_value_view};
 ghost use Rattle.protobuf_parse_model.specs.Descriptors.{enum_view};
-ghost use Rattle.protobuf_parse_rules.specs.Claims.{Claims, conflicts};
+ghost use Rattle.protobuf_parse_rules.specs.Claims.{conflicts};
+ghost use Rattle.protobuf_parse_rules.specs.ClaimsKept.{Claims};
 ghost use Rattle.protobuf_parse_rules.specs.Enums.{allows_alias, enum_breaches, first_not_zero};
 ghost use Rattle.protobuf_parse_rules.specs.Enums.{not_zero};
 ghost use Rattle.protobuf_parse_rules.specs.Enums.{value_claim, value_rule, values_in_use};

@@ -2,12 +2,12 @@
 
 ghost use Rattle.std.specs.Prelude.{◌≡◌, IfOk, Some, option_map, string_bytes};
 ghost use Rattle.protobuf_parse_rules.specs.Findings.{finding_view};
-ghost use Rattle.protobuf_parse_rules.specs.Claims.{spot_name};
-ghost use Rattle.protobuf_parse_wire.specs.Declarations.{name_within};
+ghost use Rattle.protobuf_parse_rules.specs.ClaimsKept.{spot_name};
 ghost use Rattle.protobuf_parse_rules.specs.Rules.{broken, broken_by, broken_if};
 
 use crate::claims::Holder;
 use crate::rule::Rule;
+use protobuf_parse_wire::name_within;
 use std::alloc::{AllocError, Global};
 
 /// A rule that is broken, what it speaks of beside the construct, and who has already what only one
@@ -62,19 +62,7 @@ pub fn spot_name(alloc: Global, of: Spot<'_>) -> Result<String, AllocError>
     ensures { IfOk result (λ s. string_bytes s ≡ spot_name of.entry.scope.now of.entry.name) }
 {
     match of.name {
-        Some(name) => full_name(alloc, of.scope, name),
+        Some(name) => name_within(alloc, of.scope, name),
         None => String::from_str(alloc, of.scope),
     }
-}
-
-/// The full name of what has the name in the scope.
-pub fn full_name(alloc: Global, scope: &str, name: &str) -> Result<String, AllocError>
-    ensures { IfOk result (λ s. string_bytes s ≡ name_within scope.now name.now) }
-{
-    let room = scope.len().saturating_add(name.len()).saturating_add(1);
-    let mut full = String::with_capacity(alloc, room)?;
-    full.push_str(scope)?;
-    full.push('.')?;
-    full.push_str(name)?;
-    Ok(full)
 }

@@ -3,7 +3,8 @@
 ghost use Rattle.std.specs.Prelude.{◌≡◌, ◌++◌, [], ◌∷◌, map, IfOk, OnOk, string_bytes};
 ghost use Rattle.protobuf_parse_model.specs.ByHash.{hash_of};
 ghost use Rattle.protobuf_parse_model.specs.Descriptors.{FieldDescriptor, field_view};
-ghost use Rattle.protobuf_parse_rules.specs.Claims.{Claims, conflicts};
+ghost use Rattle.protobuf_parse_rules.specs.Claims.{conflicts};
+ghost use Rattle.protobuf_parse_rules.specs.ClaimsKept.{Claims};
 ghost use Rattle.protobuf_parse_rules.specs.JsonNames.{json_claim, json_rule};
 ghost use Rattle.protobuf_parse_rules.specs.Rules.{breaches_told};
 

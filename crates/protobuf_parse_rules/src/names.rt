@@ -5,7 +5,8 @@ ghost use Rattle.std.specs.Prelude.{string_bytes};
 ghost use Rattle.protobuf_parse_base.specs.Names.{dotted_parts};
 ghost use Rattle.protobuf_parse_model.specs.Descriptors.{enum_value_view, enum_view, field_view};
 ghost use Rattle.protobuf_parse_model.specs.Descriptors.{method_view, oneof_view, service_view};
-ghost use Rattle.protobuf_parse_rules.specs.Claims.{Claims, Knows, conflicts};
+ghost use Rattle.protobuf_parse_rules.specs.Claims.{conflicts};
+ghost use Rattle.protobuf_parse_rules.specs.ClaimsKept.{Claims, Knows};
 ghost use Rattle.protobuf_parse_rules.specs.Keys.{packages_at, packages_in};
 ghost use Rattle.protobuf_parse_rules.specs.KnownNames.{named_view};
 ghost use Rattle.protobuf_parse_rules.specs.Names as spec;
@@ -16,7 +17,6 @@ ghost use Rattle.protobuf_parse_rules.specs.Rules.{breaches_told};
 ghost use Rattle.protobuf_parse_rules.specs.declared.kind.NamedKind.TheVariants as kind;
 
 use crate::claims::{Held, Holder, Holders, Thing, check_claim};
-use crate::finding::full_name;
 use crate::kind::NamedKind;
 use crate::places::{Body, Holds};
 use crate::violation::Violation;
@@ -24,6 +24,7 @@ use protobuf_parse_model::{
     EnumDescriptorProto, EnumValueDescriptorProto, FieldDescriptorProto, MethodDescriptorProto,
     OneofDescriptorProto, ServiceDescriptorProto,
 };
+use protobuf_parse_wire::name_within;
 use std::alloc::{AllocError, Global};
 use std::collections::BTreeMap;
 
@@ -158,7 +159,7 @@ fn add<'a>(
     ensures { OnOk result (map named_view names.new.items ≡ map named_view names.old.items
         ++ named_in file.now scope.now kind name.now ∷ []) }
 {
-    let name = full_name(alloc, scope, name)?;
+    let name = name_within(alloc, scope, name)?;
     names.push(Named { file, kind, name })?;
     Ok(())
 }
@@ -291,7 +292,7 @@ fn add_service<'a>(
         ++ spec.service_named file.now scope.now (service_view service.now)) }
 {
     add(alloc, names, file, scope, NamedKind::Service, &service.name)?;
-    let inside = full_name(alloc, scope, &service.name)?;
+    let inside = name_within(alloc, scope, &service.name)?;
     add_methods(alloc, names, file, &inside, &service.method)
 }
 
@@ -367,7 +368,7 @@ fn add_fronts<'a>(
     let mut scope = String::new(alloc);
     'parts: for part in package.split('.') {
         add(alloc, names, file, &scope, NamedKind::Package, part)?;
-        let inside = full_name(alloc, &scope, part)?;
+        let inside = name_within(alloc, &scope, part)?;
         scope = inside;
     }
     Ok(())

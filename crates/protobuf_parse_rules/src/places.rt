@@ -7,8 +7,7 @@ ghost use Rattle.protobuf_parse_model.specs.Descriptors.{extension_range_view, m
 ghost use Rattle.protobuf_parse_model.specs.Descriptors.{message_view};
 ghost use Rattle.protobuf_parse_model.specs.Descriptors.{reserved_range_view, service_view};
 ghost use Rattle.protobuf_parse_wire.specs.Declarations.{declared_message, name_within};
-ghost use Rattle.protobuf_parse_wire.specs.Declarations.{package_scope};
-ghost use Rattle.protobuf_parse_rules.specs.Claims.{holder_view};
+ghost use Rattle.protobuf_parse_rules.specs.ClaimsKept.{holder_view};
 ghost use Rattle.protobuf_parse_rules.specs.Findings.{site_of};
 ghost use Rattle.protobuf_parse_rules.specs.Places.{body_view, content_view, enums_of};
 ghost use Rattle.protobuf_parse_rules.specs.Places.{extension_ranges, extensions_of};
@@ -18,11 +17,12 @@ ghost use Rattle.protobuf_parse_rules.specs.Places.{reserved_names};
 ghost use Rattle.protobuf_parse_rules.specs.Places.{reserved_ranges, services_of};
 
 use crate::claims::Holder;
-use crate::finding::{Spot, full_name};
+use crate::finding::Spot;
 use protobuf_parse_model::{
     DescriptorProto, EnumDescriptorProto, ExtensionRange, FieldDescriptorProto,
     FileDescriptorProto, ReservedRange, ServiceDescriptorProto,
 };
+use protobuf_parse_wire::{name_within, package_scope};
 use std::alloc::{AllocError, Global};
 
 /// A message, or a file outside of its messages.
@@ -201,7 +201,7 @@ fn add_file<'a>(
 {
     let path = path_of(file);
     let proto3 = is_proto3(file);
-    let scope = scope_of(alloc, file)?;
+    let scope = package_scope(alloc, file)?;
     add_messages(alloc, bodies, path, proto3, &scope, &file.message_type)?;
     bodies.push(Body {
         file: path,
@@ -227,16 +227,6 @@ fn is_proto3(file: &FileDescriptorProto) -> bool
     match &file.syntax {
         Some(syntax) => syntax.as_str() == "proto3",
         None => false,
-    }
-}
-
-/// The package, if any, after a dot.
-fn scope_of(alloc: Global, file: &FileDescriptorProto) -> Result<String, AllocError>
-    ensures { IfOk result (λ s. string_bytes s ≡ package_scope (file_view file.now).«package») }
-{
-    match &file.package {
-        Some(package) => format!(in alloc; ".{package}"),
-        None => Ok(String::new(alloc)),
     }
 }
 
@@ -272,7 +262,7 @@ fn add_message<'a>(
         ++ map (message_place path.now proto3)
         (declared_message scope.now (message_view message.now))) }
 {
-    let name = full_name(alloc, scope, &message.name)?;
+    let name = name_within(alloc, scope, &message.name)?;
     if message.nested_type.is_empty() {
         return add_one(bodies, path, proto3, name, message);
     }

@@ -1,7 +1,7 @@
 //! Texts that may stand once in a list.
 
 ghost use Rattle.std.specs.Prelude.{◌≡◌, ◌++◌, [], ◌∷◌, map, IfOk, OnOk, string_bytes};
-ghost use Rattle.protobuf_parse_rules.specs.Claims.{Claims};
+ghost use Rattle.protobuf_parse_rules.specs.ClaimsKept.{Claims};
 ghost use Rattle.protobuf_parse_rules.specs.Findings.{site_of};
 ghost use Rattle.protobuf_parse_rules.specs.Keys.{text_key};
 ghost use Rattle.protobuf_parse_rules.specs.Repeats.{repeat_claim, repeat_rule, repeats};

@@ -13,12 +13,12 @@ ghost use Rattle.protobuf_parse_rules.specs.Places.{Place, body_view, content_vi
 ghost use Rattle.protobuf_parse_rules.specs.declared.known.KnownEnum.{KnownEnum};
 ghost use Rattle.protobuf_parse_rules.specs.declared.known.KnownMessage.{KnownMessage};
 
-use crate::finding::full_name;
 use crate::keys::keyed;
 use crate::known::{KnownEnum, KnownMessage, enum_with, message_with};
 use crate::places::{Body, Holds};
 use crate::uses::{Uses, no_uses, uses_of};
 use protobuf_parse_model::EnumDescriptorProto;
+use protobuf_parse_wire::name_within;
 use std::alloc::{AllocError, Global};
 use std::collections::BTreeMap;
 
@@ -134,7 +134,7 @@ fn add_enums<'a>(
         ++ map (enum_of file.now scope.now proto3) (map enum_view declared.now)) }
 {
     'declared: for each in declared {
-        let name = full_name(alloc, scope, &each.name)?;
+        let name = name_within(alloc, scope, &each.name)?;
         enums.push(OwnedEnum {
             file,
             name,

@@ -15,7 +15,8 @@ use Rattle.protobuf_parse_model.specs.declared.descriptor.DescriptorProto.{out-D
 use Rattle.protobuf_parse_model.specs.Descriptors.{Text, FileDescriptor, FieldDescriptor}
 use Rattle.protobuf_parse_model.specs.Descriptors.{MessageParts, MessageDescriptor, a_message}
 use Rattle.protobuf_parse_model.specs.Descriptors.{messages_of_list, message_parts, message_view}
-use Rattle.protobuf_parse_model.specs.Descriptors.{message_view_is, field_view, parts_seen}
+use Rattle.protobuf_parse_model.specs.Descriptors.{field_view, parts_seen}
+use Rattle.protobuf_parse_model.proofs.Levels.{message_view_is}
 use Rattle.protobuf_parse_model.specs.Declarations.{Declared}
 use Rattle.protobuf_parse_wire.specs.declared.reader.index.Index.{Index}
 use Rattle.protobuf_parse_base.specs.Multimaps.{values_under}

@@ -5,7 +5,8 @@ use Rattle.std.proofs.lemmas.Nat.{and_mask, or_shifted, or_comm}
 use Rattle.protobuf_parse_wire.specs.Trees.{EntryTree}
 use Rattle.protobuf_parse_wire.specs.Wire.{groups, EndsAboveZero, IsVarint}
 use Rattle.protobuf_parse_wire.specs.declared.entry.Entry.{Entry, fold_out-Entry}
-use Rattle.protobuf_parse_wire.specs.Views.{WireItem, entry_view, entry_value_view}
+use Rattle.protobuf_parse_wire.specs.Views.{WireItem, entry_view}
+use Rattle.protobuf_parse_wire.specs.ViewParts.{entry_value_view}
 use Rattle.protobuf_parse_wire.specs.Views.{entry_value_step}
 use Rattle.protobuf_parse_wire.specs.Views.{entry_step}
 

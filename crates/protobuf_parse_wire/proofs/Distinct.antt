@@ -19,7 +19,8 @@ use Rattle.std.proofs.lemmas.Int.{ints}
 use Rattle.std.proofs.lemmas.List.Folds.{find-append, list_any-append}
 use Rattle.protobuf_parse_model.specs.declared.descriptor.FieldDescriptorProto.{FieldDescriptorProto}
 use Rattle.protobuf_parse_model.specs.Descriptors.{Text, FileDescriptor, FieldDescriptor}
-use Rattle.protobuf_parse_model.specs.Descriptors.{MessageDescriptor, message_view, message_view_is}
+use Rattle.protobuf_parse_model.specs.Descriptors.{MessageDescriptor, message_view}
+use Rattle.protobuf_parse_model.proofs.Levels.{message_view_is}
 use Rattle.protobuf_parse_model.specs.Descriptors.{field_view, parts_seen}
 use Rattle.protobuf_parse_model.specs.declared.descriptor.DescriptorProto.{DescriptorProto}
 use Rattle.protobuf_parse_model.specs.declared.descriptor.DescriptorProto.{out-DescriptorProto}

@@ -10,7 +10,7 @@ use Rattle.protobuf_parse_wire.specs.Kinds.{KindShape, shape_of_type, wire_type}
 use Rattle.protobuf_parse_wire.specs.Reading.{WireRead, Inner, FieldsByNumber, value_at, typed_at}
 use Rattle.protobuf_parse_wire.specs.Reading.{payload_at}
 use Rattle.protobuf_parse_wire.specs.Reading.{records, message_at}
-use Rattle.protobuf_parse_wire.specs.Views.{payload_of_type}
+use Rattle.protobuf_parse_wire.specs.ViewParts.{payload_of_type}
 
 pub too_deep : (enter : Option Text → WireRead FieldsByNumber) (levels : ℕ) (name : Option Text)
     (bs : List ℕ)

@@ -10,3 +10,4 @@ pub mod Writing
 pub mod Encoded
 pub mod Views
 pub mod Indexed
+pub mod ViewParts

@@ -1,17 +1,11 @@
 -- The code's entries and fields without where they lie in memory.
-use Rattle.std.specs.Prelude.{ℕ, ℤ, pos, List, [], ◌∷◌, map, Option, Some, None, Err}
-use Rattle.protobuf_parse_model.specs.Descriptors.{Text}
-use Rattle.protobuf_parse_wire.specs.declared.fault.ReadFault.TheVariants.{FloatOrGroup}
+use Rattle.std.specs.Prelude.{ℕ, List, [], ◌∷◌, map}
 use Rattle.protobuf_parse_wire.specs.declared.kind.Kind.{Kind}
 use Rattle.protobuf_parse_wire.specs.declared.entry.Entry.{Entry, fold-Entry}
-use Rattle.protobuf_parse_wire.specs.declared.entry.EntryValue.{EntryValue, fold-EntryValue}
 use Rattle.protobuf_parse_wire.specs.declared.entry.EntryValue.TheOpen.{EntryValue-F, Entry-F}
 use Rattle.protobuf_parse_wire.specs.declared.field.ReadField.{ReadField, fold-ReadField}
 use Rattle.protobuf_parse_wire.specs.declared.field.ReadValue.{ReadValue, fold-ReadValue}
 use Rattle.protobuf_parse_wire.specs.declared.field.ReadValue.TheOpen.{ReadValue-F, ReadField-F}
-use Rattle.protobuf_parse_wire.specs.Kinds as kinds
-use Rattle.protobuf_parse_wire.specs.Kinds.{KindShape}
-use Rattle.protobuf_parse_wire.specs.Reading.{WireRead, Inner, decoded, payload_at}
 use Rattle.protobuf_parse_wire.specs.Trees.{EntryTree, Entries, ValueTree, Field, fields_of_list}
 use Rattle.protobuf_parse_wire.specs.Trees.{number, truth, bytes, message, no_entries, entry}
 
@@ -35,9 +29,6 @@ entry_value_step (EntryValue-F.Message es) = message (entries_of_list es.items)
 abbrev pub entry_step : Entry-F EntryTree WireItem → WireItem
 entry_step e = record { number = e.number; kind = e.kind; value = e.value }
 
-abbrev pub entry_value_view : EntryValue → EntryTree
-entry_value_view = fold-EntryValue EntryTree WireItem entry_value_step entry_step
-
 abbrev pub entry_view : Entry → WireItem
 entry_view = fold-Entry EntryTree WireItem entry_value_step entry_step
 
@@ -58,27 +49,3 @@ read_value_view = fold-ReadValue ValueTree Field value_step field_step
 
 abbrev pub read_field_view : ReadField → Field
 read_field_view = fold-ReadField ValueTree Field value_step field_step
-
--- Values of such a type are whole numbers.
-abbrev pub HasNumber : Option KindShape → Type 0
-HasNumber (Some (kinds.whole word w code)) = Unit {0}
-HasNumber (Some kinds.truth) = ⊥
-HasNumber (Some kinds.text) = ⊥
-HasNumber (Some kinds.octets) = ⊥
-HasNumber (Some kinds.message) = ⊥
-HasNumber None = ⊥
-
--- what an unsigned number says of such a type
-abbrev pub number_said : Option KindShape → ℕ → ℤ
-number_said (Some (kinds.whole word w code)) u = decoded w code u
-number_said (Some kinds.truth) u = pos 0
-number_said (Some kinds.text) u = pos 0
-number_said (Some kinds.octets) u = pos 0
-number_said (Some kinds.message) u = pos 0
-number_said None u = pos 0
-
--- the payload of such a type, and the bytes after it
-abbrev pub payload_of_type : Inner → Option Text → Option KindShape → List ℕ
-    → WireRead (ValueTree × List ℕ)
-payload_of_type inner name (Some s) bs = payload_at inner name s bs
-payload_of_type inner name None bs = Err FloatOrGroup

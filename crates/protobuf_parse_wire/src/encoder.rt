@@ -4,7 +4,8 @@ ghost use Rattle.std.specs.Prelude.{◌≡◌, ◌+◌, ◌*◌, ◌++◌, [], O
 ghost use Rattle.protobuf_parse_wire.specs.Kinds.{InRange, shape_of_kind, wire_type};
 ghost use Rattle.protobuf_parse_wire.specs.Wire.{Spells, zigzag_of};
 ghost use Rattle.protobuf_parse_wire.specs.Writing.{AreWritable, IsWritable};
-ghost use Rattle.protobuf_parse_wire.specs.Views.{entries_view, entry_value_view};
+ghost use Rattle.protobuf_parse_wire.specs.Views.{entries_view};
+ghost use Rattle.protobuf_parse_wire.specs.ViewParts.{entry_value_view};
 ghost use Rattle.protobuf_parse_wire.specs.Encoded.{varint_of, number_bytes, delimited, payload};
 ghost use Rattle.protobuf_parse_wire.specs.Encoded.{encoded};
 

@@ -3,9 +3,8 @@
 ghost use Rattle.std.specs.Prelude.{◌≡◌, ◌++◌, ◌∷◌, [], map, string_bytes, IfOk, OnOk};
 ghost use Rattle.protobuf_parse_model.specs.Descriptors.{enum_view, field_view, file_view};
 ghost use Rattle.protobuf_parse_model.specs.Descriptors.{message_view};
-ghost use Rattle.protobuf_parse_wire.specs.Declarations.{package_scope, name_within};
-ghost use Rattle.protobuf_parse_options.specs.Holding.{enums_spotted, extensions_spotted};
-ghost use Rattle.protobuf_parse_options.specs.Holding.{messages_spotted};
+ghost use Rattle.protobuf_parse_options.specs.HoldingParts.{enums_spotted, extensions_spotted};
+ghost use Rattle.protobuf_parse_options.specs.HoldingParts.{messages_spotted};
 ghost use Rattle.protobuf_parse_options.specs.Spots.{enum_name, enums_inside, extensions_inside};
 ghost use Rattle.protobuf_parse_options.specs.Spots.{field_name, spotted_each, spotted_enums};
 ghost use Rattle.protobuf_parse_options.specs.Spots.{spotted_extensions, spotted_inside};
@@ -15,6 +14,7 @@ ghost use Rattle.protobuf_parse_options.specs.Spots.{spotted_message, spotted_me
 use protobuf_parse_model::{
     DescriptorProto, EnumDescriptorProto, FieldDescriptorProto, FileDescriptorProto,
 };
+use protobuf_parse_wire::{name_within, package_scope};
 use std::alloc::{AllocError, Global};
 
 /// Something that a file declares.
@@ -28,28 +28,6 @@ pub struct Spotted<T> {
     /// Its number in its list.
     pub index: usize,
     pub what: T,
-}
-
-/// The full name of what has the name in the scope, which is a full name or nothing.
-fn within(alloc: Global, scope: &str, name: &str) -> Result<String, AllocError>
-    ensures { IfOk result (λ s. string_bytes s ≡ name_within scope.now name.now) }
-{
-    let room = scope.len().saturating_add(name.len()).saturating_add(1);
-    let mut text = String::with_capacity(alloc, room)?;
-    text.push_str(scope)?;
-    text.push('.')?;
-    text.push_str(name)?;
-    Ok(text)
-}
-
-/// The package, if any, after a dot.
-fn package_scope(alloc: Global, file: &FileDescriptorProto) -> Result<String, AllocError>
-    ensures { IfOk result (λ s. string_bytes s ≡ package_scope (file_view file.now).«package») }
-{
-    match &file.package {
-        Some(package) => within(alloc, "", package),
-        None => Ok(String::new(alloc)),
-    }
 }
 
 /// The same path.
@@ -115,7 +93,7 @@ fn add_message<'a>(
         ++ spotted_message scope.now path.now index (message_view message.now)) }
 {
     list.push(Spotted {
-        name: within(alloc, scope, &message.name)?,
+        name: name_within(alloc, scope, &message.name)?,
         path: copied(alloc, path)?,
         index,
         what: message,
@@ -123,7 +101,7 @@ fn add_message<'a>(
     if message.nested_type.is_empty() {
         return Ok(());
     }
-    let name = within(alloc, scope, &message.name)?;
+    let name = name_within(alloc, scope, &message.name)?;
     let inner = path_to(alloc, path, index)?;
     add_messages(alloc, &name, &inner, &message.nested_type, list)
 }
@@ -177,7 +155,7 @@ fn add_enums<'a>(
         ++ spotted_each enum_name scope.now path.now 0 (map enum_view enums.now)) }
 {
     for (index, what) in enums.iter().enumerate() {
-        let name = within(alloc, scope, &what.name)?;
+        let name = name_within(alloc, scope, &what.name)?;
         let path = copied(alloc, path)?;
         list.push(Spotted {
             name,
@@ -238,7 +216,7 @@ fn add_extensions<'a>(
         ++ spotted_each field_name scope.now path.now 0 (map field_view extensions.now)) }
 {
     for (index, what) in extensions.iter().enumerate() {
-        let name = within(alloc, scope, &what.name)?;
+        let name = name_within(alloc, scope, &what.name)?;
         let path = copied(alloc, path)?;
         list.push(Spotted {
             name,

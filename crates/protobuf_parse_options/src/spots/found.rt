@@ -3,16 +3,20 @@
 ghost use Rattle.std.specs.Prelude.{◌≡◌, map, option_map, slice_get};
 ghost use Rattle.protobuf_parse_model.specs.Descriptors.{enum_value_view, enum_view, field_view};
 ghost use Rattle.protobuf_parse_model.specs.Descriptors.{message_view, parts_seen};
-ghost use Rattle.protobuf_parse_options.specs.Holding.{at_spot, at_spots, enum_seen, field_there};
-ghost use Rattle.protobuf_parse_options.specs.Holding.{file_numbered, file_seen, found_by};
-ghost use Rattle.protobuf_parse_options.specs.Holding.{inside_of};
-ghost use Rattle.protobuf_parse_options.specs.Holding.{members_view, message_seen, number_there};
-ghost use Rattle.protobuf_parse_options.specs.Holding.{option_join, spot_view};
+ghost use Rattle.protobuf_parse_options.specs.HoldingParts.{at_spot, at_spots, enum_seen};
+ghost use Rattle.protobuf_parse_options.specs.HoldingParts.{field_there};
+ghost use Rattle.protobuf_parse_options.specs.Holding.{file_seen};
+ghost use Rattle.protobuf_parse_options.specs.HoldingParts.{file_numbered, found_by};
+ghost use Rattle.protobuf_parse_options.specs.HoldingParts.{inside_of};
+ghost use Rattle.protobuf_parse_options.specs.HoldingParts.{members_view, message_seen};
+ghost use Rattle.protobuf_parse_options.specs.HoldingParts.{number_there};
+ghost use Rattle.protobuf_parse_options.specs.Holding.{spot_view};
+ghost use Rattle.protobuf_parse_options.specs.HoldingParts.{option_join};
 ghost use Rattle.protobuf_parse_options.specs.Views.{field_seen};
 ghost use Rattle.protobuf_parse_options.specs.ByName.{first};
 ghost use Rattle.protobuf_parse_options.specs.Spots.{enums_inside, extensions_inside};
-ghost use Rattle.protobuf_parse_options.specs.Spots.{messages_inside};
-ghost use Rattle.protobuf_parse_options.specs.Positions.{field_by, number_by, value_number};
+ghost use Rattle.protobuf_parse_options.specs.SpotsInside.{messages_inside};
+ghost use Rattle.protobuf_parse_options.specs.Positioned.{field_by, number_by, value_number};
 
 use crate::lookup::{field_among, number_among};
 use crate::spots::Spot;

@@ -2,9 +2,10 @@
 
 ghost use Rattle.std.specs.Prelude.{◌≡◌, Some, option_map};
 ghost use Rattle.protobuf_parse_model.specs.Descriptors.{file_view, message_view};
-ghost use Rattle.protobuf_parse_options.specs.Holding.{members_view};
-ghost use Rattle.protobuf_parse_options.specs.Spots.{down, inside_file, inside_message};
-ghost use Rattle.protobuf_parse_options.specs.Spots.{next_inside};
+ghost use Rattle.protobuf_parse_options.specs.HoldingParts.{members_view};
+ghost use Rattle.protobuf_parse_options.specs.Spots.{inside_file, inside_message};
+ghost use Rattle.protobuf_parse_options.specs.SpotsInside.{down};
+ghost use Rattle.protobuf_parse_options.specs.SpotsInside.{next_inside};
 
 use protobuf_parse_model::{
     DescriptorProto, EnumDescriptorProto, FieldDescriptorProto, FileDescriptorProto,

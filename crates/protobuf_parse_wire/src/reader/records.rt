@@ -8,7 +8,7 @@ ghost use Rattle.protobuf_parse_wire.specs.Kinds.{shape_of_type, wire_type};
 ghost use Rattle.protobuf_parse_wire.specs.Reading.{ReaderGives, Inner, message_at, record_at};
 ghost use Rattle.protobuf_parse_wire.specs.Reading.{records, value_at};
 ghost use Rattle.protobuf_parse_wire.specs.Indexed.{Remembers, entered_by, numbered};
-ghost use Rattle.protobuf_parse_wire.specs.Views.{HasNumber, number_said, payload_of_type};
+ghost use Rattle.protobuf_parse_wire.specs.ViewParts.{HasNumber, number_said, payload_of_type};
 ghost use Rattle.protobuf_parse_wire.specs.Views.{read_field_view, read_value_view};
 
 use super::index::Index;

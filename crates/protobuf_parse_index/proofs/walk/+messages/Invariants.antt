@@ -1,7 +1,7 @@
 use Rattle.std.proofs.Common.{map, take}
 use Rattle.std.specs.List.{flat_map}
 use Rattle.protobuf_parse_model.specs.Descriptors.{message_view}
-use Rattle.protobuf_parse_index.specs.Kept.{WalkAddsMessages}
+use Rattle.protobuf_parse_index.specs.Puts.{WalkAddsMessages}
 use Rattle.protobuf_parse_index.specs.Walk.{message_within}
 use Rattle.protobuf_parse_index.proofs.walk.+messages.Given as goal
 

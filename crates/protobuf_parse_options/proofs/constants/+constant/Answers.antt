@@ -1,5 +1,5 @@
 use Rattle.std.proofs.Common.{◌≡◌, ◌++◌, ◌∙◌, List, [], ap, flat_map, map, subst, sym, ℕ}
-use Rattle.protobuf_parse_syntax.specs.Trees.{constant_field_syntax}
+use Rattle.protobuf_parse_syntax.specs.InnerViews.{constant_field_syntax}
 use Rattle.protobuf_parse_model.specs.Descriptors.{field_view, Text}
 use Rattle.protobuf_parse_options.specs.Given.{field_faults_of, given_field_bytes}
 use Rattle.protobuf_parse_options.specs.Given.{given_field_items}

@@ -1,5 +1,6 @@
 use Rattle.std.proofs.Common.{◌≡◌, ◌++◌, [], map, flat_map, take}
-use Rattle.protobuf_parse_syntax.specs.Trees.{constant_field_syntax, constant_syntax}
+use Rattle.protobuf_parse_syntax.specs.Trees.{constant_syntax}
+use Rattle.protobuf_parse_syntax.specs.InnerViews.{constant_field_syntax}
 use Rattle.protobuf_parse_model.specs.Descriptors.{field_view}
 use Rattle.protobuf_parse_options.specs.CustomFaults.{constant_faults}
 use Rattle.protobuf_parse_options.specs.Given.{field_faults_of, given_field_bytes, value_bytes}

@@ -1,7 +1,8 @@
 use Rattle.std.proofs.Common.{◌∙◌, ap, map, sym}
 use Rattle.std.specs.List.{list_any}
 use Rattle.protobuf_parse_syntax.specs.Trees.{enum_statement_syntax, field_statement_syntax}
-use Rattle.protobuf_parse_syntax.specs.Trees.{message_statement_syntax, oneof_statement_syntax}
+use Rattle.protobuf_parse_syntax.specs.Trees.{oneof_statement_syntax}
+use Rattle.protobuf_parse_syntax.specs.InnerViews.{message_statement_syntax}
 use Rattle.protobuf_parse_syntax.proofs.Messages.{views_enum, views_extend, views_oneof}
 use Rattle.protobuf_parse_options.specs.CustomParts.{custom_in_enum, custom_in_field}
 use Rattle.protobuf_parse_options.specs.CustomParts.{custom_in_message, custom_in_oneof}

@@ -1,6 +1,6 @@
 use Rattle.std.proofs.Common.{◌≡◌, false, map, take}
 use Rattle.std.specs.List.{list_any}
-use Rattle.protobuf_parse_syntax.specs.Trees.{message_statement_syntax}
+use Rattle.protobuf_parse_syntax.specs.InnerViews.{message_statement_syntax}
 use Rattle.protobuf_parse_options.specs.CustomParts.{custom_in_message}
 use Rattle.protobuf_parse_options.proofs.custom_parts.+message.Given as goal
 

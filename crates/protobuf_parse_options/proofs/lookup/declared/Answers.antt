@@ -1,7 +1,8 @@
 use Rattle.std.proofs.Common.{◌∙◌, ap, flat_map, map, option_map}
 use Rattle.protobuf_parse_options.specs.ByName.{first}
 use Rattle.protobuf_parse_wire.specs.Declarations.{declared_extensions}
-use Rattle.protobuf_parse_options.specs.Holding.{at_spots, files_seen, spot_view}
+use Rattle.protobuf_parse_options.specs.Holding.{files_seen, spot_view}
+use Rattle.protobuf_parse_options.specs.HoldingParts.{at_spots}
 use Rattle.protobuf_parse_options.specs.Spots.{extensions_inside}
 use Rattle.protobuf_parse_options.proofs.ByName.{first_named, named_twice, with_name}
 use Rattle.protobuf_parse_options.proofs.lookup.declared.Goals as goal

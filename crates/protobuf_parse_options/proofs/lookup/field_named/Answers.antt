@@ -1,5 +1,6 @@
 use Rattle.std.proofs.Common.{◌∙◌, ap, map}
-use Rattle.protobuf_parse_options.specs.Holding.{field_there, found_by, spot_view}
+use Rattle.protobuf_parse_options.specs.Holding.{spot_view}
+use Rattle.protobuf_parse_options.specs.HoldingParts.{field_there, found_by}
 use Rattle.protobuf_parse_options.proofs.lookup.field_named.Goals as goal
 
 pub returns : goal.returns

@@ -1,9 +1,10 @@
 use Rattle.std.proofs.Common.{◌∙◌, ap, flat_map, is_some, map, sym}
 use Rattle.protobuf_parse_options.specs.ByName.{first}
 use Rattle.protobuf_parse_wire.specs.Declarations.{messages_declared_in}
-use Rattle.protobuf_parse_options.specs.Holding.{at_spots, files_seen, message_seen, spot_view}
+use Rattle.protobuf_parse_options.specs.Holding.{files_seen, spot_view}
+use Rattle.protobuf_parse_options.specs.HoldingParts.{at_spots, message_seen}
 use Rattle.protobuf_parse_model.specs.Descriptors.{parts_seen}
-use Rattle.protobuf_parse_options.specs.Spots.{messages_inside}
+use Rattle.protobuf_parse_options.specs.SpotsInside.{messages_inside}
 use Rattle.protobuf_parse_options.proofs.ByName.{any_named, first_mapped, is_some_mapped}
 use Rattle.protobuf_parse_options.proofs.lookup.is_message.Goals as goal
 

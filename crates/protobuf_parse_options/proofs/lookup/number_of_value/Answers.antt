@@ -1,5 +1,6 @@
 use Rattle.std.proofs.Common.{◌∙◌, ap, map}
-use Rattle.protobuf_parse_options.specs.Holding.{found_by, number_there, spot_view}
+use Rattle.protobuf_parse_options.specs.Holding.{spot_view}
+use Rattle.protobuf_parse_options.specs.HoldingParts.{found_by, number_there}
 use Rattle.protobuf_parse_options.proofs.lookup.number_of_value.Goals as goal
 
 pub returns : goal.returns

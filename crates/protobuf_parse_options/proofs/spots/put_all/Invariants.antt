@@ -1,6 +1,7 @@
 use Rattle.std.proofs.Common.{◌≡◌, ◌++◌, drop}
 use Rattle.protobuf_parse_model.specs.Descriptors.{Text}
-use Rattle.protobuf_parse_options.specs.Holding.{spots_of_list, spots_under}
+use Rattle.protobuf_parse_options.specs.Holding.{spots_under}
+use Rattle.protobuf_parse_options.specs.HoldingParts.{spots_of_list}
 use Rattle.protobuf_parse_options.proofs.spots.put_all.Given as goal
 
 abbrev pub invariant-items : goal.invariant-items

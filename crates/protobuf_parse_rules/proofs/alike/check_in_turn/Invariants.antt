@@ -1,6 +1,6 @@
 use Rattle.std.proofs.Common.{map, take, string_bytes}
 use Rattle.protobuf_parse_rules.specs.Alike.{spelled_claim}
-use Rattle.protobuf_parse_rules.specs.Claims.{Claims}
+use Rattle.protobuf_parse_rules.specs.ClaimsKept.{Claims}
 use Rattle.protobuf_parse_rules.specs.Held.{rules_of}
 use Rattle.protobuf_parse_rules.specs.KnownNames.{spelled_view}
 use Rattle.protobuf_parse_rules.proofs.alike.check_in_turn.Given as goal

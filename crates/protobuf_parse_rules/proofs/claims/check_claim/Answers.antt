@@ -1,7 +1,8 @@
 use Rattle.std.proofs.Common.{◌++◌, append-nil, sym, ap, ◌∙◌, Some, None}
 use Rattle.std.specs.Prelude.{option_map}
 use Rattle.std.proofs.lemmas.Result.{on_ok_weaker}
-use Rattle.protobuf_parse_rules.specs.Claims.{Claim, holder_view, thing_view}
+use Rattle.protobuf_parse_rules.specs.Claims.{Claim}
+use Rattle.protobuf_parse_rules.specs.ClaimsKept.{holder_view, thing_view}
 use Rattle.protobuf_parse_rules.specs.Findings.{site_of}
 use Rattle.protobuf_parse_rules.specs.Held.{rules_of}
 use Rattle.protobuf_parse_rules.specs.Rules.{breaches_told}

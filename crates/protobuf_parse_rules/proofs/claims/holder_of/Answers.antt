@@ -4,7 +4,8 @@ use Rattle.std.proofs.Common.{to_z, of_z}
 use Rattle.std.specs.Prelude.{option_map}
 use Rattle.std.specs.Int.RustNames.{FitsSigned}
 use Rattle.std.proofs.lemmas.Int.{to_z-of_z}
-use Rattle.protobuf_parse_rules.specs.Claims.{Key, Knows, Thing, Who, first_claim, holder_view}
+use Rattle.protobuf_parse_rules.specs.Claims.{Thing, Who, first_claim}
+use Rattle.protobuf_parse_rules.specs.ClaimsKept.{Key, Knows, holder_view}
 use Rattle.protobuf_parse_rules.proofs.Claiming.{knows_new, knows_held, who_of}
 use Rattle.protobuf_parse_rules.proofs.claims.holder_of.Goals as goal
 

@@ -1,5 +1,6 @@
 use Rattle.std.proofs.Common.{sym, ap, ◌∙◌}
-use Rattle.protobuf_parse_rules.specs.Claims.{Claim, holder_view, thing_view}
+use Rattle.protobuf_parse_rules.specs.Claims.{Claim}
+use Rattle.protobuf_parse_rules.specs.ClaimsKept.{holder_view, thing_view}
 use Rattle.protobuf_parse_rules.specs.Held.{rules_of}
 use Rattle.protobuf_parse_rules.specs.declared.claims.Held.{Held}
 use Rattle.protobuf_parse_rules.proofs.claims.taken.Goals as goal

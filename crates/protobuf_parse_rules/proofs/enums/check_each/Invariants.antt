@@ -1,6 +1,6 @@
 use Rattle.std.proofs.Common.{map, take, string_bytes}
 use Rattle.protobuf_parse_model.specs.Descriptors.{enum_value_view}
-use Rattle.protobuf_parse_rules.specs.Claims.{Claims}
+use Rattle.protobuf_parse_rules.specs.ClaimsKept.{Claims}
 use Rattle.protobuf_parse_rules.specs.Enums.{value_claim, value_rule}
 use Rattle.protobuf_parse_rules.proofs.enums.check_each.Given as goal
 

@@ -1,6 +1,6 @@
 use Rattle.std.proofs.Common.{map, take, string_bytes}
 use Rattle.protobuf_parse_model.specs.Descriptors.{field_view}
-use Rattle.protobuf_parse_rules.specs.Claims.{Claims}
+use Rattle.protobuf_parse_rules.specs.ClaimsKept.{Claims}
 use Rattle.protobuf_parse_rules.specs.JsonNames.{json_claim, json_rule}
 use Rattle.protobuf_parse_rules.proofs.json_names.check_each.Given as goal
 

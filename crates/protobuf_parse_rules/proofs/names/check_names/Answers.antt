@@ -1,5 +1,6 @@
 use Rattle.std.proofs.Common.{List, [], map, subst, ap}
-use Rattle.protobuf_parse_rules.specs.Claims.{Claim, Knows}
+use Rattle.protobuf_parse_rules.specs.Claims.{Claim}
+use Rattle.protobuf_parse_rules.specs.ClaimsKept.{Knows}
 use Rattle.protobuf_parse_rules.specs.KnownNames.{named_view}
 use Rattle.protobuf_parse_rules.specs.Names.{name_claim, name_rule}
 use Rattle.protobuf_parse_rules.proofs.Claiming.{claims_all, claims_step, nothing_known}

@@ -1,5 +1,5 @@
 use Rattle.std.proofs.Common.{map, take}
-use Rattle.protobuf_parse_rules.specs.Claims.{Claims}
+use Rattle.protobuf_parse_rules.specs.ClaimsKept.{Claims}
 use Rattle.protobuf_parse_rules.specs.KnownNames.{named_view}
 use Rattle.protobuf_parse_rules.specs.Names.{name_claim, name_rule}
 use Rattle.protobuf_parse_rules.proofs.names.check_names.Given as goal

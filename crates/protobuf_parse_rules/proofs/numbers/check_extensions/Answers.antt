@@ -1,6 +1,7 @@
 use Rattle.std.proofs.Common.{List, map, sym, subst, string_bytes, take}
 use Rattle.protobuf_parse_model.specs.Descriptors.{Text, field_view}
-use Rattle.protobuf_parse_rules.specs.Claims.{Claim, Claims}
+use Rattle.protobuf_parse_rules.specs.Claims.{Claim}
+use Rattle.protobuf_parse_rules.specs.ClaimsKept.{Claims}
 use Rattle.protobuf_parse_rules.specs.Numbers.{extension_claim, extension_claims, number_rule}
 use Rattle.protobuf_parse_rules.proofs.Claiming.{claims_more}
 use Rattle.protobuf_parse_rules.proofs.Lists.{joined_one_more}

@@ -1,6 +1,6 @@
 use Rattle.std.proofs.Common.{map, take, string_bytes}
 use Rattle.protobuf_parse_model.specs.Descriptors.{field_view}
-use Rattle.protobuf_parse_rules.specs.Claims.{Claims}
+use Rattle.protobuf_parse_rules.specs.ClaimsKept.{Claims}
 use Rattle.protobuf_parse_rules.specs.Numbers.{extension_claims, number_rule}
 use Rattle.protobuf_parse_rules.proofs.numbers.check_extensions.Given as goal
 

@@ -1,7 +1,8 @@
 use Rattle.std.proofs.Common.{List, ◌++◌, ap, subst, ◌∙◌, map, string_bytes}
 use Rattle.std.proofs.lemmas.Result.{on_ok_weaker}
 use Rattle.protobuf_parse_model.specs.Descriptors.{Text, FieldDescriptor, field_view}
-use Rattle.protobuf_parse_rules.specs.Claims.{Claim, Claims}
+use Rattle.protobuf_parse_rules.specs.Claims.{Claim}
+use Rattle.protobuf_parse_rules.specs.ClaimsKept.{Claims}
 use Rattle.protobuf_parse_rules.specs.Numbers.{extension_claims, field_claims, number_rule}
 use Rattle.protobuf_parse_rules.specs.Places.{body_view, fields_of}
 use Rattle.protobuf_parse_rules.proofs.Claiming.{claims_more}

@@ -1,5 +1,5 @@
 use Rattle.std.proofs.Common.{map, take, string_bytes}
-use Rattle.protobuf_parse_rules.specs.Claims.{Claims}
+use Rattle.protobuf_parse_rules.specs.ClaimsKept.{Claims}
 use Rattle.protobuf_parse_rules.specs.Findings.{site_of}
 use Rattle.protobuf_parse_rules.specs.Repeats.{repeat_claim, repeat_rule}
 use Rattle.protobuf_parse_rules.proofs.repeats.check_each.Given as goal

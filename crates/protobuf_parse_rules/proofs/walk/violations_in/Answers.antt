@@ -1,7 +1,8 @@
 use Rattle.std.proofs.Common.{[], ◌++◌, List, map, take, sym, ap, ◌∙◌, subst}
 use Rattle.protobuf_parse_rules.specs.Places.{Place, body_view}
 use Rattle.protobuf_parse_rules.specs.Rules.{violation_view}
-use Rattle.protobuf_parse_rules.specs.Violations.{Checks, breaches_after}
+use Rattle.protobuf_parse_rules.specs.Violations.{breaches_after}
+use Rattle.protobuf_parse_rules.specs.ClaimsKept.{Checks}
 use Rattle.protobuf_parse_rules.proofs.Claiming.{nothing_known}
 use Rattle.protobuf_parse_rules.proofs.Lists.{mapped_all, mapped_one_more}
 use Rattle.protobuf_parse_rules.proofs.Walking.{checks_more, checks_none}

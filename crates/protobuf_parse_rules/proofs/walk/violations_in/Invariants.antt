@@ -1,7 +1,7 @@
 use Rattle.std.proofs.Common.{List, map, take}
 use Rattle.protobuf_parse_rules.specs.KnownTables.{Knows}
 use Rattle.protobuf_parse_rules.specs.Places.{Place, body_view}
-use Rattle.protobuf_parse_rules.specs.Violations.{Checks}
+use Rattle.protobuf_parse_rules.specs.ClaimsKept.{Checks}
 use Rattle.protobuf_parse_rules.proofs.walk.violations_in.Given as goal
 
 abbrev pub invariant-bodies : goal.invariant-bodies

@@ -3,7 +3,8 @@ use Rattle.std.proofs.Common.{refl, arith, drop-cons, add-one}
 use Rattle.std.proofs.lemmas.List.{drop_all}
 use Rattle.protobuf_parse_wire.specs.declared.entry.Entry.{Entry}
 use Rattle.protobuf_parse_wire.specs.Trees.{Entries, entry}
-use Rattle.protobuf_parse_wire.specs.Views.{WireItem, entries_view, entry_value_view}
+use Rattle.protobuf_parse_wire.specs.Views.{WireItem, entries_view}
+use Rattle.protobuf_parse_wire.specs.ViewParts.{entry_value_view}
 use Rattle.protobuf_parse_wire.proofs.Appending.{entry_is}
 use Rattle.protobuf_parse_wire.proofs.Written.{Completes, goes_on, is_done}
 use Rattle.protobuf_parse_wire.specs.Kinds.{shape_of_kind, wire_type}

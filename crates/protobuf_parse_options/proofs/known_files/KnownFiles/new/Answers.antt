@@ -2,14 +2,17 @@ use Rattle.std.proofs.Common.{◌∙◌, List, ap, flat_map, map, subst, sym}
 use Rattle.protobuf_parse_model.specs.Descriptors.{FileDescriptor, Text, parts_seen}
 use Rattle.protobuf_parse_options.specs.ByName.{fields_of_all, values_of_all}
 use Rattle.protobuf_parse_wire.specs.Declarations.{declared_extensions}
-use Rattle.protobuf_parse_options.specs.Holding.{at_spots, field_there, files_seen, found_by}
-use Rattle.protobuf_parse_options.specs.Holding.{number_there, spots_in_files}
+use Rattle.protobuf_parse_options.specs.Holding.{files_seen}
+use Rattle.protobuf_parse_options.specs.HoldingParts.{at_spots, field_there, found_by}
+use Rattle.protobuf_parse_options.specs.Holding.{spots_in_files}
+use Rattle.protobuf_parse_options.specs.HoldingParts.{number_there}
 use Rattle.protobuf_parse_options.specs.Views.{field_among, number_among}
 use Rattle.protobuf_parse_options.specs.OptionFields.{declared_enums}
 use Rattle.protobuf_parse_options.specs.OptionLaw.{HasSmallValues}
 use Rattle.protobuf_parse_options.specs.Spots.{enum_name, enums_inside, extensions_inside}
 use Rattle.protobuf_parse_options.specs.Spots.{field_name}
-use Rattle.protobuf_parse_options.specs.Spots.{messages_inside, spotted_enums, spotted_extensions}
+use Rattle.protobuf_parse_options.specs.Spots.{spotted_enums, spotted_extensions}
+use Rattle.protobuf_parse_options.specs.SpotsInside.{messages_inside}
 use Rattle.protobuf_parse_options.specs.Spots.{spotted_messages}
 use Rattle.protobuf_parse_options.specs.Positions.{extension_parts, field_names, value_names}
 use Rattle.protobuf_parse_options.proofs.ByName.{values_named}

@@ -7,8 +7,8 @@ use Rattle.protobuf_parse_model.specs.declared.descriptor.FieldDescriptorProto.{
 use Rattle.protobuf_parse_model.specs.Descriptors.{Text, enum_view, field_view, file_view}
 use Rattle.protobuf_parse_model.specs.Descriptors.{message_view}
 use Rattle.protobuf_parse_options.specs.declared.spots.declared.Spotted.{Spotted}
-use Rattle.protobuf_parse_options.specs.Holding.{AddsSpots, messages_spotted}
-use Rattle.protobuf_parse_options.specs.Holding.{spots_of_list}
+use Rattle.protobuf_parse_options.specs.HoldingParts.{AddsSpots, messages_spotted}
+use Rattle.protobuf_parse_options.specs.HoldingParts.{spots_of_list}
 use Rattle.protobuf_parse_options.specs.Views.{enum_declared}
 use Rattle.protobuf_parse_options.specs.Spots.{spotted_enums, spotted_extensions, spotted_messages}
 use Rattle.protobuf_parse_options.specs.Positions.{extension_parts, field_names, value_names}

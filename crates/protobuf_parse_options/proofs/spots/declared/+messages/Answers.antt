@@ -5,7 +5,7 @@ use Rattle.std.proofs.lemmas.Result.{on_ok_weaker}
 use Rattle.protobuf_parse_model.specs.declared.descriptor.DescriptorProto.{DescriptorProto}
 use Rattle.protobuf_parse_model.specs.Descriptors.{Text, MessageDescriptor, message_view}
 use Rattle.protobuf_parse_wire.specs.Declarations.{name_within}
-use Rattle.protobuf_parse_options.specs.Holding.{message_seen, messages_spotted, spotted_view}
+use Rattle.protobuf_parse_options.specs.HoldingParts.{message_seen, messages_spotted, spotted_view}
 use Rattle.protobuf_parse_options.specs.Spots.{SpottedView, spotted_list}
 use Rattle.protobuf_parse_options.proofs.Spotting.{message_listed}
 use Rattle.protobuf_parse_options.proofs.spots.declared.+messages.Goals as goal
@@ -22,7 +22,7 @@ add_message-returns t c =
     let index = c.args.index in
     let name : Text = string_bytes c.in_ok-name.name in
     let old = messages_spotted c.args.list.now.items in
-    let same : string_bytes c.in_ok-within.field-0 ≡ name = c.in_ok-within.ensures
+    let same : string_bytes c.in_ok-name_within.field-0 ≡ name = c.in_ok-name_within.ensures
     ∙ ap (name_within scope) (c.deref.ensures ∙ sym c.deref-2.ensures)
     ∙ sym c.in_ok-name.ensures in
     let copied : c.in_ok-copied.field-0.items ≡ path = c.in_ok-copied.ensures in

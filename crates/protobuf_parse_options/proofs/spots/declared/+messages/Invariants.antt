@@ -1,6 +1,6 @@
 use Rattle.std.proofs.Common.{◌≡◌, ◌++◌, drop, map}
 use Rattle.protobuf_parse_model.specs.Descriptors.{message_view}
-use Rattle.protobuf_parse_options.specs.Holding.{messages_spotted}
+use Rattle.protobuf_parse_options.specs.HoldingParts.{messages_spotted}
 use Rattle.protobuf_parse_options.specs.Spots.{spotted_list}
 use Rattle.protobuf_parse_options.proofs.spots.declared.+messages.Given as goal
 

@@ -1,6 +1,6 @@
 use Rattle.std.proofs.Common.{◌≡◌, ◌++◌, drop, map}
 use Rattle.protobuf_parse_model.specs.Descriptors.{enum_view}
-use Rattle.protobuf_parse_options.specs.Holding.{enums_spotted}
+use Rattle.protobuf_parse_options.specs.HoldingParts.{enums_spotted}
 use Rattle.protobuf_parse_options.specs.Spots.{enum_name, spotted_each}
 use Rattle.protobuf_parse_options.proofs.spots.declared.add_enums.Given as goal
 

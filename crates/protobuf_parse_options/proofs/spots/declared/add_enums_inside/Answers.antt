@@ -3,7 +3,7 @@ use Rattle.std.specs.Prelude.{string_bytes}
 use Rattle.std.proofs.lemmas.Result.{on_ok_weaker}
 use Rattle.protobuf_parse_model.specs.declared.descriptor.EnumDescriptorProto.{EnumDescriptorProto}
 use Rattle.protobuf_parse_model.specs.Descriptors.{Text, EnumDescriptor, enum_view}
-use Rattle.protobuf_parse_options.specs.Holding.{enums_spotted}
+use Rattle.protobuf_parse_options.specs.HoldingParts.{enums_spotted}
 use Rattle.protobuf_parse_options.specs.Spots.{SpottedView, enum_name, enums_inside, spotted_each}
 use Rattle.protobuf_parse_options.proofs.Spotting.{inside_is}
 use Rattle.protobuf_parse_options.proofs.spots.declared.add_enums_inside.Goals as goal

@@ -1,6 +1,6 @@
 use Rattle.std.proofs.Common.{◌≡◌, ◌++◌, drop, map}
 use Rattle.protobuf_parse_model.specs.Descriptors.{field_view}
-use Rattle.protobuf_parse_options.specs.Holding.{extensions_spotted}
+use Rattle.protobuf_parse_options.specs.HoldingParts.{extensions_spotted}
 use Rattle.protobuf_parse_options.specs.Spots.{field_name, spotted_each}
 use Rattle.protobuf_parse_options.proofs.spots.declared.add_extensions.Given as goal
 

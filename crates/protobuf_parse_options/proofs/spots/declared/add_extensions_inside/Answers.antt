@@ -3,7 +3,7 @@ use Rattle.std.specs.Prelude.{string_bytes}
 use Rattle.std.proofs.lemmas.Result.{on_ok_weaker}
 use Rattle.protobuf_parse_model.specs.declared.descriptor.FieldDescriptorProto.{FieldDescriptorProto}
 use Rattle.protobuf_parse_model.specs.Descriptors.{Text, FieldDescriptor, field_view}
-use Rattle.protobuf_parse_options.specs.Holding.{extensions_spotted}
+use Rattle.protobuf_parse_options.specs.HoldingParts.{extensions_spotted}
 use Rattle.protobuf_parse_options.specs.Spots.{SpottedView, field_name, extensions_inside}
 use Rattle.protobuf_parse_options.specs.Spots.{spotted_each}
 use Rattle.protobuf_parse_options.proofs.Spotting.{inside_is}

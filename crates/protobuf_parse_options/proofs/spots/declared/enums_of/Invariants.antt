@@ -1,5 +1,5 @@
 use Rattle.std.proofs.Common.{◌≡◌, ◌++◌, drop}
-use Rattle.protobuf_parse_options.specs.Holding.{enums_spotted, messages_spotted}
+use Rattle.protobuf_parse_options.specs.HoldingParts.{enums_spotted, messages_spotted}
 use Rattle.protobuf_parse_options.specs.Spots.{enum_name, enums_inside, spotted_inside}
 use Rattle.protobuf_parse_options.proofs.spots.declared.enums_of.Given as goal
 

@@ -1,5 +1,5 @@
 use Rattle.std.proofs.Common.{◌≡◌, ◌++◌, drop}
-use Rattle.protobuf_parse_options.specs.Holding.{extensions_spotted, messages_spotted}
+use Rattle.protobuf_parse_options.specs.HoldingParts.{extensions_spotted, messages_spotted}
 use Rattle.protobuf_parse_options.specs.Spots.{field_name, extensions_inside, spotted_inside}
 use Rattle.protobuf_parse_options.proofs.spots.declared.extensions_declared.Given as goal
 

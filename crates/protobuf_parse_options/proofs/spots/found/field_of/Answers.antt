@@ -1,6 +1,7 @@
 use Rattle.std.proofs.Common.{◌∙◌, ◌+◌, ap, drop, map, option_map, sym}
 use Rattle.std.specs.Option.{option_or}
-use Rattle.protobuf_parse_options.specs.Holding.{field_there, found_by, spot_view}
+use Rattle.protobuf_parse_options.specs.Holding.{spot_view}
+use Rattle.protobuf_parse_options.specs.HoldingParts.{field_there, found_by}
 use Rattle.protobuf_parse_options.specs.Views.{field_seen}
 use Rattle.protobuf_parse_options.proofs.ByName.{is_some_mapped}
 use Rattle.protobuf_parse_options.proofs.Found.{first_none, first_some, mapped_rest}

@@ -1,7 +1,8 @@
 use Rattle.std.proofs.Common.{◌∙◌, ◌+◌, ap, drop, map, option_map, sym}
 use Rattle.std.specs.Option.{option_or}
 use Rattle.protobuf_parse_options.specs.ByName.{first}
-use Rattle.protobuf_parse_options.specs.Holding.{at_spots, spot_view}
+use Rattle.protobuf_parse_options.specs.Holding.{spot_view}
+use Rattle.protobuf_parse_options.specs.HoldingParts.{at_spots}
 use Rattle.protobuf_parse_options.specs.Views.{field_seen}
 use Rattle.protobuf_parse_options.specs.Spots.{extensions_inside}
 use Rattle.protobuf_parse_options.proofs.ByName.{first_more, is_some_mapped}

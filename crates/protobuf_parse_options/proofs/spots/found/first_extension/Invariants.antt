@@ -1,6 +1,7 @@
 use Rattle.std.proofs.Common.{◌≡◌, drop, map}
 use Rattle.protobuf_parse_options.specs.ByName.{first}
-use Rattle.protobuf_parse_options.specs.Holding.{at_spots, spot_view}
+use Rattle.protobuf_parse_options.specs.Holding.{spot_view}
+use Rattle.protobuf_parse_options.specs.HoldingParts.{at_spots}
 use Rattle.protobuf_parse_options.specs.Spots.{extensions_inside}
 use Rattle.protobuf_parse_options.proofs.spots.found.first_extension.Given as goal
 

@@ -1,9 +1,10 @@
 use Rattle.std.proofs.Common.{◌∙◌, ◌+◌, ap, drop, map, option_map, sym}
 use Rattle.std.specs.Option.{option_or}
 use Rattle.protobuf_parse_options.specs.ByName.{first}
-use Rattle.protobuf_parse_options.specs.Holding.{at_spots, spot_view}
-use Rattle.protobuf_parse_options.specs.Holding.{message_seen}
-use Rattle.protobuf_parse_options.specs.Spots.{messages_inside}
+use Rattle.protobuf_parse_options.specs.Holding.{spot_view}
+use Rattle.protobuf_parse_options.specs.HoldingParts.{at_spots}
+use Rattle.protobuf_parse_options.specs.HoldingParts.{message_seen}
+use Rattle.protobuf_parse_options.specs.SpotsInside.{messages_inside}
 use Rattle.protobuf_parse_options.proofs.ByName.{first_more, is_some_mapped}
 use Rattle.protobuf_parse_options.proofs.Found.{first_none, first_some}
 use Rattle.protobuf_parse_options.proofs.Holding.{opened}

@@ -1,7 +1,8 @@
 use Rattle.std.proofs.Common.{◌≡◌, drop, map}
 use Rattle.protobuf_parse_options.specs.ByName.{first}
-use Rattle.protobuf_parse_options.specs.Holding.{at_spots, spot_view}
-use Rattle.protobuf_parse_options.specs.Spots.{messages_inside}
+use Rattle.protobuf_parse_options.specs.Holding.{spot_view}
+use Rattle.protobuf_parse_options.specs.HoldingParts.{at_spots}
+use Rattle.protobuf_parse_options.specs.SpotsInside.{messages_inside}
 use Rattle.protobuf_parse_options.proofs.spots.found.first_message.Given as goal
 
 abbrev pub invariant-spots : goal.invariant-spots

@@ -1,6 +1,7 @@
 use Rattle.std.proofs.Common.{◌∙◌, ◌+◌, ap, drop, map, sym}
 use Rattle.std.specs.Option.{option_or}
-use Rattle.protobuf_parse_options.specs.Holding.{found_by, number_there, spot_view}
+use Rattle.protobuf_parse_options.specs.Holding.{spot_view}
+use Rattle.protobuf_parse_options.specs.HoldingParts.{found_by, number_there}
 use Rattle.protobuf_parse_options.proofs.Found.{first_none, first_some, mapped_rest}
 use Rattle.protobuf_parse_options.proofs.spots.found.number_of.Goals as goal
 
