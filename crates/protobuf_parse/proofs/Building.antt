@@ -21,7 +21,8 @@ use Rattle.protobuf_parse_run.specs.Run.{HaveTrees, IsCaused, MayAnswer, RunsAsT
 use Rattle.protobuf_parse_run.specs.Run.{shipped}
 use Rattle.protobuf_parse.specs.Includes.{AreNamed}
 use Rattle.protobuf_parse.specs.Folders.{MayFind}
-use Rattle.protobuf_parse.specs.Parsers.{MayReadAnything, RanOverFolders, RunsOverFolders}
+use Rattle.protobuf_parse.specs.Parsers.{MayReadAnything, RunsOverFolders}
+use Rattle.protobuf_parse.specs.Outcomes.{RanOverFolders}
 use Rattle.protobuf_parse.specs.Parsers.{TellsFault, inputs_at, is_of_input}
 use Rattle.protobuf_parse_run.proofs.Telling.{with-shipped}
 

@@ -14,7 +14,8 @@ use Rattle.protobuf_parse_run.specs.Run.{HaveLists, HaveTrees, MayAnswer, shippe
 use Rattle.protobuf_parse.specs.Includes.{AreNamed}
 use Rattle.protobuf_parse.specs.Folders.{MayFind}
 use Rattle.protobuf_parse.specs.Parsers.{MayReadAnything, inputs_at}
-use Rattle.protobuf_parse.specs.Checking.{AreReported, CheckedOverFolders, ChecksOverFolders}
+use Rattle.protobuf_parse.specs.Checking.{AreReported, ChecksOverFolders}
+use Rattle.protobuf_parse.specs.Outcomes.{CheckedOverFolders}
 use Rattle.protobuf_parse.specs.Checking.{TellsCheckFault}
 
 by-folders : (folders includes : List Text) (log : List ReadEntry) (taken inputs : List Input)

@@ -14,9 +14,11 @@ use Rattle.protobuf_parse_run.specs.declared.fault.RunFault.{RunFault}
 use Rattle.protobuf_parse_run.specs.declared.fault.RunFault.TheVariants as fault
 use Rattle.protobuf_parse_run.specs.Run.{OrMemory}
 use Rattle.protobuf_parse_run.proofs.Keeping.{bool_cases}
-use Rattle.protobuf_parse.specs.Includes.{AreNamed, unnamed, named_as, IsMisnamed}
+use Rattle.protobuf_parse.specs.Includes.{AreNamed, unnamed, named_as}
+use Rattle.protobuf_parse.specs.IncludeParts.{IsMisnamed}
 use Rattle.protobuf_parse.specs.Includes.{StandsAtFirst, StandsAtInput, is_unnamed}
-use Rattle.protobuf_parse.specs.Includes.{naming_of, part_behind, part_views, parts_after}
+use Rattle.protobuf_parse.specs.Includes.{naming_of, part_views, parts_after}
+use Rattle.protobuf_parse.specs.IncludeParts.{part_behind}
 
 -- the parts behind the first, each after a slash
 pub joined-spread : (first : Text) (parts : List Text)

@@ -21,14 +21,6 @@ pub record ChecksOverFolders (includes inputs names : List Text)
   pub told : ChecksAsTold (MayAnswer (MayFind includes) MayReadAnything) (inputs_at names inputs)
       shipped log result
 
--- or memory ran out
-abbrev pub CheckedOverFolders : List Text → List Text → List Text
-    → Result (Vec FileReport) RunFault → Type 0
-CheckedOverFolders includes inputs names (Ok reports) =
-    ChecksOverFolders includes inputs names (Ok reports)
-CheckedOverFolders includes inputs names (Err f) =
-    OrMemory f (ChecksOverFolders includes inputs names (Err f))
-
 -- each input has its proto path, and these are the reports of the check over them
 abbrev pub AreReported : List Text → List Text → Vec FileReport → Type 0
 AreReported includes inputs reports =

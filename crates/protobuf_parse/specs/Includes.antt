@@ -1,9 +1,8 @@
 -- How an input gets its proto path: the first include that is a front of it is taken off.
 use Rattle.std.specs.Prelude.{◌≡◌, Bool, true, false, not, ℕ, List, [], ◌∷◌, ◌++◌, codes, flat_map}
-use Rattle.std.specs.Prelude.{map, Option, Some, None, option_map, find, if◌then◌else◌, bytes_eq}
+use Rattle.std.specs.Prelude.{map, Option, Some, None, find, if◌then◌else◌, bytes_eq}
 use Rattle.std.specs.Prelude.{string_bytes}
 use Rattle.std.specs.Borrow.{Bor}
-use Rattle.protobuf_parse_base.specs.Characters as char
 use Rattle.protobuf_parse_base.specs.Paths.{joined, kept_parts, starts_with_slash, host_path_fault}
 use Rattle.protobuf_parse_base.specs.declared.proto_path.error.PathError.{PathError}
 use Rattle.protobuf_parse_model.specs.Descriptors.{Text}
@@ -64,13 +63,6 @@ naming_of includes input = naming_of_rest (left_of includes input)
 abbrev pub part_views : List (Bor (List ℕ)) → List Text
 part_views parts = map (λ (p : Bor (List ℕ)). p.now) parts
 
-abbrev pub rest_parts_view : Option (Bor (List (Bor (List ℕ)))) → Option (List Text)
-rest_parts_view rest = option_map (λ (r : Bor (List (Bor (List ℕ)))). part_views r.now) rest
-
--- a part behind another
-abbrev pub part_behind : Text → Text
-part_behind part = char.slash ∷ part
-
 -- ---- as faults list includes: `["a", "b"]`, each as it was given
 
 abbrev pub quoted_include : Text → Text
@@ -87,17 +79,6 @@ abbrev pub includes_text : List Text → Text
 includes_text includes = codes "[" ++ includes_between includes ++ codes "]"
 
 -- ---- which fault stands for an input
-
--- L3 for these includes and this input
-abbrev pub IsOutside : List Text → Text → RunFault → Type 0
-IsOutside includes input (fault.FileMustResideInImportPath path listed) =
-    (string_bytes path ≡ input) × (string_bytes listed ≡ includes_text includes)
-IsOutside includes input _ = ⊥
-
--- L11 for this input
-abbrev pub IsMisnamed : Text → PathError → RunFault → Type 0
-IsMisnamed input why (fault.InputPath path told) = (string_bytes path ≡ input) × (told ≡ why)
-IsMisnamed input why _ = ⊥
 
 abbrev pub StandsAtInput : List Text → Text → RunFault → Type 0
 StandsAtInput includes input (fault.FileMustResideInImportPath path listed) =

@@ -5,3 +5,5 @@ pub mod Folders
 pub mod Parsers
 pub mod ApartInRuns
 pub mod Checking
+pub mod Outcomes
+pub mod IncludeParts

@@ -46,13 +46,6 @@ abbrev pub RunsOverFolders : List Text → List Text → List Text
 RunsOverFolders includes inputs names result =
     RunsWithShipped (MayFind includes) MayReadAnything (inputs_at names inputs) result
 
--- or memory ran out
-abbrev pub RanOverFolders : List Text → List Text → List Text
-    → Result (Vec FileDescriptorProto) RunFault → Type 0
-RanOverFolders includes inputs names (Ok files) = RunsOverFolders includes inputs names (Ok files)
-RanOverFolders includes inputs names (Err f) =
-    OrMemory f (RunsOverFolders includes inputs names (Err f))
-
 -- No descriptors: memory ran out, or the fault stands for the first input that gets no proto path,
 -- or each input gets its proto path and the run over them ended with the fault.
 abbrev pub TellsFault : List Text → List Text → RunFault → Type 0

@@ -1,5 +1,6 @@
 -- Two runs that agree on the files that a file reaches: the file is alike in both.
-use Rattle.std.proofs.Common.{◌≡◌, Bool, true, inl, inr, List, [], ◌∷◌, ◌++◌, Option, Some, None, refl}
+use Rattle.std.proofs.Common.{◌≡◌, Bool, true, inl, inr, List, [], ◌∷◌, ◌++◌, Option, Some, None}
+use Rattle.std.proofs.Common.{refl}
 use Rattle.std.proofs.Common.{sym, ◌∙◌, ap, subst}
 use Rattle.std.specs.Prelude.{map, option_to_list}
 use Rattle.protobuf_parse_lexer.specs.declared.lexer.token.Place.{Place}
@@ -19,7 +20,8 @@ use Rattle.protobuf_parse_run.specs.Walks.{Trees, Reaches, HandsOn, Sees, sees_i
 use Rattle.protobuf_parse_run.specs.Walks.{among, import_paths}
 use Rattle.protobuf_parse_run.specs.Repeats.{declaring, repeat_faults, repeat_place, told_at}
 use Rattle.protobuf_parse_run.specs.Run.{Files, HasTrees, HaveTrees, IsTree, customs_of}
-use Rattle.protobuf_parse_run.specs.Run.{environment_of, faults_at, plain_of, plains_at, text_for}
+use Rattle.protobuf_parse_run.specs.Run.{environment_of, faults_at, plains_at, text_for}
+use Rattle.protobuf_parse_run.specs.PlainRuns.{plain_of}
 use Rattle.protobuf_parse_run.specs.Stability.{AgreeOn, DeclaresOnce, IsAlike, WereRead}
 use Rattle.protobuf_parse_run.proofs.Keeping.{or_right}
 use Rattle.protobuf_parse_run.proofs.Knowing.{public-imported, sees-reaches}

@@ -36,12 +36,14 @@ use Rattle.protobuf_parse_run.specs.Walks.{Trees, Reaches, HandsOn, Sees, sees_i
 use Rattle.protobuf_parse_run.specs.Walks.{among, import_paths}
 use Rattle.protobuf_parse_run.specs.Run.{Files, FilesAreListed, StandsInElab, customs_of}
 use Rattle.protobuf_parse_run.specs.Run.{environment_of, ending_faults, faults_at, is_faulty}
-use Rattle.protobuf_parse_run.specs.Run.{is_nothing, origin_given, own_faults, plain_of, plains_at}
+use Rattle.protobuf_parse_run.specs.Run.{is_nothing, origin_given, own_faults, plains_at}
+use Rattle.protobuf_parse_run.specs.PlainRuns.{plain_of}
 use Rattle.protobuf_parse_run.specs.Run.{report_at}
 use Rattle.protobuf_parse_run.specs.Repeats.{declaring, repeat_faults, repeat_place, told_at}
 use Rattle.protobuf_parse_run.specs.Loading.{Agrees, AreJoined, AreKnown, FilesAreNumbered}
 use Rattle.protobuf_parse_run.specs.Loading.{AreNumbersOf, LoadedEntry, IsLoaded, IsNumbered, Named}
-use Rattle.protobuf_parse_run.specs.Loading.{ElaboratesFile, ElaboratesOver, any_faulty, customs_over}
+use Rattle.protobuf_parse_run.specs.Loading.{ElaboratesFile, ElaboratesOver, any_faulty}
+use Rattle.protobuf_parse_run.specs.Loading.{customs_over}
 use Rattle.protobuf_parse_run.specs.Loading.{ending_over, faults_over, file_at, has_faults}
 use Rattle.protobuf_parse_run.specs.Loading.{own_over, report_over, file_over, named_trees}
 use Rattle.protobuf_parse_run.specs.Loading.{paths_in, picked_descriptors, descriptor_in}
@@ -66,7 +68,8 @@ use Rattle.protobuf_parse_run.proofs.FirstFaults.{told-before, which-told}
 use Rattle.protobuf_parse_run.proofs.Faulty.{any-number, any-text, at-end, entry-at, faulty-entry}
 use Rattle.protobuf_parse_run.proofs.Faulty.{number-any, same-bool, text-any}
 use Rattle.protobuf_parse_run.proofs.Reordering.{HavePackages, customs-same}
-use Rattle.protobuf_parse_run.proofs.Repeating.{AgreeAt, AreAlike, among-number, among-path, found-at}
+use Rattle.protobuf_parse_run.proofs.Repeating.{AgreeAt, AreAlike, among-number, among-path}
+use Rattle.protobuf_parse_run.proofs.Repeating.{found-at}
 use Rattle.protobuf_parse_run.proofs.Repeating.{kept, kept-from, none-of, number-among, path-among}
 use Rattle.protobuf_parse_run.proofs.Repeating.{repeat_place-same, told-same}
 use Rattle.protobuf_parse_run.proofs.Spelling.{others, others_by, told_by}

@@ -35,7 +35,8 @@ use Rattle.protobuf_parse_options.proofs.WithoutOptions.{meaning_ignores_options
 use Rattle.protobuf_parse_run.specs.Walks.{Input, Reaches}
 use Rattle.protobuf_parse_run.specs.Repeats.{repeat_faults}
 use Rattle.protobuf_parse_run.specs.Run.{Files, IsTree, Legal, RunsAsTold, environment_of}
-use Rattle.protobuf_parse_run.specs.Run.{plain_environments, plains_at, text_read}
+use Rattle.protobuf_parse_run.specs.Run.{plains_at, text_read}
+use Rattle.protobuf_parse_run.specs.PlainRuns.{plain_environments}
 use Rattle.protobuf_parse_run.specs.Recovered.{HoldsOptions, IsReadBack, OptionsAreHeld, bytes_in}
 use Rattle.protobuf_parse_run.specs.Recovered.{AreFilesTogether, AreNumberedApart, denoted_in}
 use Rattle.protobuf_parse_run.specs.Recovered.{handed_out}

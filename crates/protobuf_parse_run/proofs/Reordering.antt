@@ -10,7 +10,8 @@ use Rattle.protobuf_parse_options.specs.NamesAlike.{HasPackageName}
 use Rattle.protobuf_parse_options.specs.OptionBytes.{known_customs}
 use Rattle.protobuf_parse_options.proofs.DescriptorOrders.{order_makes_no_difference}
 use Rattle.protobuf_parse_run.specs.Walks.{Trees}
-use Rattle.protobuf_parse_run.specs.Run.{Files, HasTrees, IsTree, plain_environments, plains_at}
+use Rattle.protobuf_parse_run.specs.Run.{Files, HasTrees, IsTree, plains_at}
+use Rattle.protobuf_parse_run.specs.PlainRuns.{plain_environments}
 use Rattle.protobuf_parse_run.specs.Run.{text_read}
 use Rattle.protobuf_parse_run.specs.declared.log.ReadEntry.{ReadEntry}
 use Rattle.protobuf_parse_run.specs.Loading.{GoesOn}

@@ -12,7 +12,8 @@ use Rattle.protobuf_parse_syntax.specs.Trees.{file_message, file_enum, file_exte
 use Rattle.protobuf_parse_syntax.specs.Trees.{FileSyntax}
 use Rattle.protobuf_parse_model.specs.declared.customs.Construct.TheVariants as of
 use Rattle.protobuf_parse_model.specs.Descriptors.{Text, MessageDescriptor, MessageParts, a_message}
-use Rattle.protobuf_parse_model.specs.Descriptors.{messages_list, list_of_is, FieldDescriptor}
+use Rattle.protobuf_parse_model.specs.Descriptors.{messages_list, FieldDescriptor}
+use Rattle.protobuf_parse_model.proofs.Levels.{list_of_is}
 use Rattle.protobuf_parse_model.specs.Descriptors.{EnumDescriptor, EnumValueDescriptor}
 use Rattle.protobuf_parse_model.specs.Descriptors.{ServiceDescriptor, MethodDescriptor}
 use Rattle.protobuf_parse_model.specs.Descriptors.{OneofDescriptor, FileDescriptor}
@@ -21,7 +22,8 @@ use Rattle.protobuf_parse_model.specs.Faults.{Among, here, there}
 use Rattle.protobuf_parse_model.specs.Statements.{group_body, message_body, oneof_fields, groups}
 use Rattle.protobuf_parse_model.specs.Declarations.{Scope, inside, full_name}
 use Rattle.protobuf_parse_model.specs.Environment.{Environment, Customs, env_inside}
-use Rattle.protobuf_parse_elaboration.specs.Fields.{FieldOwner, of_message, field_of, field_statement_of}
+use Rattle.protobuf_parse_elaboration.specs.Fields.{FieldOwner, of_message, field_of}
+use Rattle.protobuf_parse_elaboration.specs.Fields.{field_statement_of}
 use Rattle.protobuf_parse_elaboration.specs.Enums.{enum_values, options_of_enum, value_of, enum_of}
 use Rattle.protobuf_parse_elaboration.specs.Services.{methods_in, options_of_service}
 use Rattle.protobuf_parse_elaboration.specs.Services.{options_of_method, method_of, service_of}
@@ -152,15 +154,6 @@ module _ (one other : Customs) where
   each_told set f g each (x ∷ xs) h =
       told_one (set x) (map set xs) (each x (first_same h))
       (each_told set f g each xs (rest_same h))
-
-  -- or becomes a list, as long by the one as by the other
-  flat_told : {X A : Type 0} (sets : X → List OptionSet) (f g : X → List A)
-      → ((x : X) → length (f x) ≡ length (g x)) → ((x : X) → f x ≡ g x → Told (sets x))
-      → (xs : List X) → flat_map f xs ≡ flat_map g xs → Told (flat_map sets xs)
-  flat_told sets f g long each [] h = nothing_told
-  flat_told sets f g long each (x ∷ xs) h =
-      told_both (sets x) (flat_map sets xs) (each x (fronts_same (f x) (g x) _ _ (long x) h))
-      (flat_told sets f g long each xs (backs_same (f x) (g x) _ _ (long x) h))
 
   -- ---- fields
 

@@ -1,6 +1,5 @@
 -- What the steps of loading do to a run at a stack of frames.
 use Rattle.protobuf_parse_options.specs.WithoutOptions.{bare_file}
-use Rattle.protobuf_parse_run.specs.Run.{ends}
 use Rattle.std.specs.Prelude.{not, Bool}
 use Rattle.std.proofs.Common.{◌≡◌, ℕ, suc, ◌+◌, ◌-◌, ◌<◌, ◌≤◌, false, inl, inr, List, [], ◌∷◌, ◌++◌}
 use Rattle.std.proofs.Common.{Option, Some, None, Result, Ok, Err, refl, sym, ◌∙◌, ap, subst}
@@ -26,9 +25,11 @@ use Rattle.protobuf_parse_run.specs.Walks.{Trees, import_paths, walks_joined, im
 use Rattle.protobuf_parse_run.specs.Walks.{walk}
 use Rattle.protobuf_parse_run.specs.Run.{Files, StandsInElab, ending_faults, environment_of}
 use Rattle.protobuf_parse_run.specs.Run.{first_read, is_nothing, own_faults, report_at}
-use Rattle.protobuf_parse_run.specs.Run.{origin_given, plain_of, Legal}
+use Rattle.protobuf_parse_run.specs.Run.{origin_given, Legal}
+use Rattle.protobuf_parse_run.specs.PlainRuns.{plain_of}
 use Rattle.protobuf_parse_run.specs.Loading.{AreKnown, FilesAreNumbered, LoadedEntry, GoesOn, Good}
-use Rattle.protobuf_parse_run.specs.Loading.{Grows, IsAdded, IsLoaded, Leaves, Settled, ElaboratesFile}
+use Rattle.protobuf_parse_run.specs.Loading.{Grows, IsAdded, IsLoaded, Leaves, Settled}
+use Rattle.protobuf_parse_run.specs.Loading.{ElaboratesFile}
 use Rattle.protobuf_parse_run.specs.Loading.{ElaboratesOver, Stops, Within, file_at, path_shape}
 use Rattle.protobuf_parse_run.specs.Loading.{imports_shape, named_trees}
 use Rattle.protobuf_parse_run.specs.Frames.{IsHeld, IsNew, IsOpened, IsRunning, IsSame, IsTaken}

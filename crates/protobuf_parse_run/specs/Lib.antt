@@ -13,3 +13,4 @@ pub mod StandingBytes
 pub mod ReadBack
 pub mod TypeNames
 pub mod Order
+pub mod PlainRuns

@@ -51,7 +51,8 @@ use Rattle.protobuf_parse_run.specs.declared.log.ReadOutcome.TheVariants as outc
 use Rattle.protobuf_parse_run.specs.declared.source.Sources.{Sources}
 use Rattle.protobuf_parse_run.specs.Run.{Files, MayAnswer, MayRead, MayResolve, FilesAreListed}
 use Rattle.protobuf_parse_run.specs.Run.{HasTrees, OrMemory, IsTheTree, text_read, environment_of}
-use Rattle.protobuf_parse_run.specs.Run.{plain_of, first_read, fault_said, text_given, origin_given}
+use Rattle.protobuf_parse_run.specs.Run.{first_read, fault_said, text_given, origin_given}
+use Rattle.protobuf_parse_run.specs.PlainRuns.{plain_of}
 use Rattle.protobuf_parse_run.specs.Run.{AreAnswered, Legal, StandsThere, StandsInLoad}
 use Rattle.protobuf_parse_run.specs.Run.{StandsInElab, IsUnparsed, ending_faults, ends, is_faulty}
 use Rattle.protobuf_parse_run.specs.Run.{is_nothing, own_faults, report_at}

@@ -23,9 +23,8 @@ use Rattle.protobuf_parse_model.specs.Linking.{before_others}
 use Rattle.protobuf_parse_elaboration.specs.FileDescriptor.{environment, file_faults, file_of}
 use Rattle.protobuf_parse_elaboration.specs.FilesByPath.{AreDistinct, AreJust, trees_at}
 use Rattle.protobuf_parse_options.specs.CustomFaults.{elaboration_faults}
-use Rattle.protobuf_parse_options.specs.DescriptorsByPath.{Environments, described_at}
 use Rattle.protobuf_parse_options.specs.OptionBytes.{known_customs}
-use Rattle.protobuf_parse_options.specs.Recovery.{plainly, plain_at}
+use Rattle.protobuf_parse_options.specs.Recovery.{plain_at}
 use Rattle.protobuf_parse_run.specs.declared.bundled.TheConstants.{BUNDLED_FILES}
 use Rattle.protobuf_parse_run.specs.declared.fault.RunFault.{RunFault}
 use Rattle.protobuf_parse_run.specs.declared.fault.RunFault.TheVariants as fault
@@ -143,14 +142,6 @@ HaveLists bundled log = (trees : Trees) → HasTrees bundled log trees
 abbrev pub are_same_bytes : Option Text → Option Text → Bool
 are_same_bytes (Some a) (Some b) = bytes_eq a b
 are_same_bytes _ _ = false
-
--- from where each file is seen, its custom options left out
-abbrev pub plain_environments : Files → Environments
-plain_environments files = plainly files.trees files.seen
-
--- The descriptor of the file of this path and tree without its custom options.
-abbrev pub plain_of : Files → Text → FileSyntax → FileDescriptor
-plain_of files p t = described_at (plain_environments files) p t
 
 -- those of the files that have a tree: what names in custom options mean is looked up in these
 abbrev pub plains_at : Files → List Text → List FileDescriptor

@@ -10,7 +10,6 @@ use crate::loaded::LoadedFiles;
 use crate::loader::{Loader, load_inputs};
 use crate::log::{CheckLog, FileReport, RunInput};
 use crate::source::{InputReader, ProtoPathResolver, Sources};
-use crate::tables::Tables;
 use std::alloc::{AllocError, Global};
 
 /// Loads the inputs in turn, each file that they reach once and after its imports, and tells all
@@ -44,13 +43,7 @@ pub fn check_inputs<'a, R: ProtoPathResolver, I: InputReader>(
     ensures meets { IsMetInCheck (map input_view inputs.now)
         (rows bundled.now) result.reads.items result.meets result.result }
 {
-    let mut loader = Loader {
-        loaded: LoadedFiles::new(alloc),
-        tables: Tables::new(alloc),
-        reads: Vec::new(alloc),
-        chain: Vec::new(alloc),
-        meets: 0,
-    };
+    let mut loader = Loader::new(alloc);
     let sources = Sources {
         resolver,
         reader,

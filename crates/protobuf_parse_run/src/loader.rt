@@ -22,7 +22,8 @@ ghost use Rattle.protobuf_parse_run.specs.Run.{StandsInElab, StandsInLong, are_s
 ghost use Rattle.protobuf_parse_run.specs.Run.{input_view, origin_given, rows, text_given};
 ghost use Rattle.protobuf_parse_run.specs.Loading.{ElaboratesTo, Grows, IndexBegins, IsDecided};
 ghost use Rattle.protobuf_parse_run.specs.Loading.{IsElabFault, IsPlaced, IsReaders, IsShadowed};
-ghost use Rattle.protobuf_parse_run.specs.Loading.{ReadsTree, ElaboratesOver, asked_by, chain_texts};
+ghost use Rattle.protobuf_parse_run.specs.Loading.{ReadsTree, ElaboratesOver, asked_by};
+ghost use Rattle.protobuf_parse_run.specs.Loading.{chain_texts};
 ghost use Rattle.protobuf_parse_run.specs.Loading.{ending_over, legal_by, named_trees};
 ghost use Rattle.protobuf_parse_run.specs.Loading.{descriptors_over, descriptors_with, trees_of};
 ghost use Rattle.protobuf_parse_run.specs.Frames.{Joined, is_public_at, number_if};
@@ -137,6 +138,26 @@ pub struct Loader {
     /// The files whose imports are being loaded, each imported by the one before it.
     pub chain: Vec<String>,
     pub meets: u128,
+}
+
+impl Loader {
+    /// Nothing is loaded.
+    pub fn new(alloc: Global) -> Self
+        ensures loaded { result.loaded.entries ≡ [] }
+        ensures names { TableTells result.tables.names [] }
+        ensures spots { IndexBegins result.tables.spots [] }
+        ensures reads { result.reads.items ≡ [] }
+        ensures chain { result.chain.items ≡ [] }
+        ensures meets { result.meets ≡ 0 }
+    {
+        Loader {
+            loaded: LoadedFiles::new(alloc),
+            tables: Tables::new(alloc),
+            reads: Vec::new(alloc),
+            chain: Vec::new(alloc),
+            meets: 0,
+        }
+    }
 }
 
 /// What came of meeting a file.

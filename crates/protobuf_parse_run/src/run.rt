@@ -17,7 +17,6 @@ use crate::loaded::LoadedFiles;
 use crate::loader::{Loader, load_inputs};
 use crate::log::{RunInput, RunLog};
 use crate::source::{InputReader, NoReader, ProtoPathResolver, Sources};
-use crate::tables::Tables;
 use protobuf_parse_base::proto_path::ProtoPathBuf;
 use protobuf_parse_model::FileDescriptorProto;
 use std::alloc::{AllocError, Global};
@@ -60,13 +59,7 @@ pub fn run_inputs<'a, R: ProtoPathResolver, I: InputReader>(
     ensures meets { IsMet (map input_view inputs.now)
         (rows bundled.now) result.reads.items result.meets result.result }
 {
-    let mut loader = Loader {
-        loaded: LoadedFiles::new(alloc),
-        tables: Tables::new(alloc),
-        reads: Vec::new(alloc),
-        chain: Vec::new(alloc),
-        meets: 0,
-    };
+    let mut loader = Loader::new(alloc);
     let sources = Sources {
         resolver,
         reader,

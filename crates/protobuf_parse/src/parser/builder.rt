@@ -7,10 +7,12 @@ ghost use Rattle.protobuf_parse_run.specs.Run.{IsCaused, input_view};
 ghost use Rattle.protobuf_parse.specs.Includes.{part_views};
 ghost use Rattle.protobuf_parse.specs.Folders.{MayFind};
 ghost use Rattle.protobuf_parse.specs.NameSets.{HasNames};
-ghost use Rattle.protobuf_parse.specs.Checking.{AreReported, CheckedOverFolders, TellsCheckFault};
+ghost use Rattle.protobuf_parse.specs.Checking.{AreReported, TellsCheckFault};
+ghost use Rattle.protobuf_parse.specs.Outcomes.{CheckedOverFolders};
 ghost use Rattle.protobuf_parse_model.specs.Descriptors.{Text};
 ghost use Rattle.protobuf_parse.specs.Parsers.{IsParsed, IsSameParser, IsSetOfInputs};
-ghost use Rattle.protobuf_parse.specs.Parsers.{MayReadAnything, RanOverFolders, TellsFault};
+ghost use Rattle.protobuf_parse.specs.Parsers.{MayReadAnything, TellsFault};
+ghost use Rattle.protobuf_parse.specs.Outcomes.{RanOverFolders};
 ghost use Rattle.protobuf_parse.specs.Parsers.{includes_of, inputs_at, inputs_of, is_name_among};
 ghost use Rattle.protobuf_parse.specs.Parsers.{is_of_input};
 

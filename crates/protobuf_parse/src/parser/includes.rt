@@ -4,12 +4,15 @@ ghost use Rattle.std.specs.Prelude.{◌≡◌, IfOk, IfErr, OnOk, ◌++◌, flat
 ghost use Rattle.protobuf_parse_base.specs.Paths.{joined, kept_parts};
 ghost use Rattle.protobuf_parse_base.specs.PathViews.{path_buf_text};
 ghost use Rattle.protobuf_parse_run.specs.Run.{OrMemory};
-ghost use Rattle.protobuf_parse.specs.Includes.{AreNamed, IsMisnamed, IsOutside, StandsAtFirst};
+ghost use Rattle.protobuf_parse.specs.Includes.{AreNamed, StandsAtFirst};
+ghost use Rattle.protobuf_parse.specs.IncludeParts.{IsMisnamed, IsOutside};
 ghost use Rattle.protobuf_parse.specs.Includes.{StandsAtInput, includes_text, left_by, left_of};
 ghost use Rattle.protobuf_parse.specs.Includes.{named_as, naming_of, naming_of_rest, next_include};
-ghost use Rattle.protobuf_parse.specs.Includes.{part_behind, part_views, parts_after};
+ghost use Rattle.protobuf_parse.specs.Includes.{part_views, parts_after};
+ghost use Rattle.protobuf_parse.specs.IncludeParts.{part_behind};
 ghost use Rattle.protobuf_parse.specs.Includes.{quoted_include};
-ghost use Rattle.protobuf_parse.specs.Includes.{rest_parts_view, unnamed};
+ghost use Rattle.protobuf_parse.specs.Includes.{unnamed};
+ghost use Rattle.protobuf_parse.specs.IncludeParts.{rest_parts_view};
 
 use protobuf_parse_base::proto_path::{PathError, ProtoPathBuf};
 use protobuf_parse_run::RunFault;

@@ -1,5 +1,5 @@
 use Rattle.std.proofs.Common.{ℕ, List, Bor, sym, append-nil}
-use Rattle.protobuf_parse.specs.Includes.{part_behind}
+use Rattle.protobuf_parse.specs.IncludeParts.{part_behind}
 use Rattle.protobuf_parse_listing.proofs.Appending.{appended_all}
 use Rattle.protobuf_parse.proofs.Including.{appended-part}
 use Rattle.protobuf_parse.proofs.parser.includes.put_next_parts.Goals as goal

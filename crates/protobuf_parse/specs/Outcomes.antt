@@ -1,0 +1,26 @@
+-- No public clause rests on this file.
+-- What runs and checks over folders answer, or that memory ran out.
+use Rattle.std.specs.Prelude.{List, Result, Ok, Err}
+use Rattle.std.specs.Global.{Vec}
+use Rattle.protobuf_parse_model.specs.Descriptors.{Text}
+use Rattle.protobuf_parse_run.specs.declared.fault.RunFault.{RunFault}
+use Rattle.protobuf_parse_run.specs.declared.log.FileReport.{FileReport}
+use Rattle.protobuf_parse_run.specs.Run.{OrMemory}
+use Rattle.protobuf_parse.specs.Checking.{ChecksOverFolders}
+use Rattle.protobuf_parse_model.specs.declared.descriptor.FileDescriptorProto.{FileDescriptorProto}
+use Rattle.protobuf_parse.specs.Parsers.{RunsOverFolders}
+
+-- or memory ran out
+abbrev pub CheckedOverFolders : List Text → List Text → List Text
+    → Result (Vec FileReport) RunFault → Type 0
+CheckedOverFolders includes inputs names (Ok reports) =
+    ChecksOverFolders includes inputs names (Ok reports)
+CheckedOverFolders includes inputs names (Err f) =
+    OrMemory f (ChecksOverFolders includes inputs names (Err f))
+
+-- or memory ran out
+abbrev pub RanOverFolders : List Text → List Text → List Text
+    → Result (Vec FileDescriptorProto) RunFault → Type 0
+RanOverFolders includes inputs names (Ok files) = RunsOverFolders includes inputs names (Ok files)
+RanOverFolders includes inputs names (Err f) =
+    OrMemory f (RunsOverFolders includes inputs names (Err f))
