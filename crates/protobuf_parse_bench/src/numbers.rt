@@ -7,6 +7,7 @@ pub struct Numbers {
 }
 
 impl Numbers {
+    /// The numbers behind that seed.
     pub fn new(seed: u64) -> Numbers {
         Numbers { state: seed }
     }

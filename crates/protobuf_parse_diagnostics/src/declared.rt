@@ -38,6 +38,7 @@ impl DeclarationPlaces {
         }
     }
 
+    /// Those that the outline of a file tells of.
     pub(crate) fn of_outline(alloc: Global, outline: &Outline<'_>) -> Result<Self, AllocError> {
         let mut sites = BTreeMap::new(alloc);
         for declared in &outline.declared {

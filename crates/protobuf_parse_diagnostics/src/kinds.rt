@@ -1,33 +1,16 @@
 //! Which constants options and fields take.
 
-use protobuf_parse_elaboration::has_builtin_option;
-use protobuf_parse_model::Construct;
-use protobuf_parse_syntax::{ProtobufConstant, Scalar, Type};
+use protobuf_parse_syntax::{Scalar, Type};
 use std::alloc::{AllocError, Global};
 
-/// Which values a built-in option has.
-#[derive(Clone, Copy)]
-enum OptionKind {
-    Text,
-    Truth,
-    Words(&'static [&'static str]),
-}
-
-/// Whether the construct has the built-in option, or it is a field's `default` or `json_name`.
-pub fn has_option(construct: Construct, name: &str) -> bool {
-    has_builtin_option(construct, name)
-        || (matches!(construct, Construct::Field) && (name == "default" || name == "json_name"))
-}
-
-/// Which values the built-in option of that name has, whatever it is an option of.
-fn kind_of(name: &str) -> OptionKind {
+/// Which values the built-in option of that name has, as messages say it, whatever it is an option
+/// of.
+pub fn values_of_option(name: &str) -> &'static str {
     match name {
-        "optimize_for" => OptionKind::Words(&["SPEED", "CODE_SIZE", "LITE_RUNTIME"]),
-        "ctype" => OptionKind::Words(&["STRING", "CORD", "STRING_PIECE"]),
-        "jstype" => OptionKind::Words(&["JS_NORMAL", "JS_STRING", "JS_NUMBER"]),
-        "idempotency_level" => {
-            OptionKind::Words(&["IDEMPOTENCY_UNKNOWN", "NO_SIDE_EFFECTS", "IDEMPOTENT"])
-        }
+        "optimize_for" => "SPEED, CODE_SIZE or LITE_RUNTIME",
+        "ctype" => "STRING, CORD or STRING_PIECE",
+        "jstype" => "JS_NORMAL, JS_STRING or JS_NUMBER",
+        "idempotency_level" => "IDEMPOTENCY_UNKNOWN, NO_SIDE_EFFECTS or IDEMPOTENT",
         "java_package"
         | "java_outer_classname"
         | "go_package"
@@ -37,34 +20,8 @@ fn kind_of(name: &str) -> OptionKind {
         | "php_class_prefix"
         | "php_namespace"
         | "php_metadata_namespace"
-        | "ruby_package" => OptionKind::Text,
-        _ => OptionKind::Truth,
-    }
-}
-
-/// Whether the built-in option of that name has the value.
-pub fn takes_constant(name: &str, value: &ProtobufConstant) -> bool {
-    match (kind_of(name), value) {
-        (OptionKind::Text, ProtobufConstant::String(_)) => true,
-        (OptionKind::Truth, ProtobufConstant::Bool(_)) => true,
-        (OptionKind::Words(words), ProtobufConstant::Ident(word)) => {
-            words.contains(&word.as_str())
-        }
-        _ => false,
-    }
-}
-
-/// Which values the built-in option of that name has, as messages say it.
-pub fn values_of_option(name: &str) -> &'static str {
-    match name {
-        "optimize_for" => "SPEED, CODE_SIZE or LITE_RUNTIME",
-        "ctype" => "STRING, CORD or STRING_PIECE",
-        "jstype" => "JS_NORMAL, JS_STRING or JS_NUMBER",
-        "idempotency_level" => "IDEMPOTENCY_UNKNOWN, NO_SIDE_EFFECTS or IDEMPOTENT",
-        _ => match kind_of(name) {
-            OptionKind::Text => "a string",
-            _ => "`true` or `false`",
-        },
+        | "ruby_package" => "a string",
+        _ => "`true` or `false`",
     }
 }
 

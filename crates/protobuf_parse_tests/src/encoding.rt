@@ -1,7 +1,7 @@
 //! What the encoder writes for values that are no numbers.
 
 ghost use Rattle.protobuf_parse_wire.specs.Kinds.{shape_of_kind};
-ghost use Rattle.protobuf_parse_wire.specs.Views.{entry_value_view};
+ghost use Rattle.protobuf_parse_wire.specs.ViewParts.{entry_value_view};
 ghost use Rattle.protobuf_parse_wire.specs.Writing.{IsWritable};
 
 use protobuf_parse_wire::{Entry, EntryValue, Kind, encode, put_message};

@@ -9,17 +9,10 @@ use protobuf_parse_diagnostics::{
     fault_diagnostic, rule_diagnostics,
 };
 use protobuf_parse_rules::violations;
+use protobuf_parse_wire::{name_within, package_scope};
 use std::alloc::{AllocError, Global};
 use std::test::Fail;
 use std::{fs, process};
-
-/// What stands before the names of a file's declarations, with a dot at its head.
-fn scope_of(alloc: Global, file: &FileDescriptorProto) -> Result<String, AllocError> {
-    match &file.package {
-        Some(package) => format!(in alloc; ".{package}"),
-        None => Ok(String::new(alloc)),
-    }
-}
 
 /// A warning for each message of the file that has no options.
 fn lint(
@@ -32,11 +25,11 @@ fn lint(
         None => "",
     };
     let places = DeclarationPlaces::of(alloc, sources, path)?;
-    let scope = scope_of(alloc, file)?;
+    let scope = package_scope(alloc, file)?;
     let mut told = Vec::new(alloc);
     for message in &file.message_type {
         if message.options.is_none() {
-            let full = format!(in alloc; "{scope}.{}", message.name)?;
+            let full = name_within(alloc, &scope, &message.name)?;
             told.push(Diagnostic {
                 file: String::from_str(alloc, sources.origin_of(path))?,
                 place: places.place(DeclaredKind::Message, &full),

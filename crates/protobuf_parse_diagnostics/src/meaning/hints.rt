@@ -185,6 +185,7 @@ fn is_spoken_of(declared: &Declared<'_>, error: &ElabError) -> bool {
     is_of_kind(declared, error.kind) && declared.full == error.what
 }
 
+/// Adds to a text of places that it stands there too, in that file.
 pub fn push_site(text: &mut String, origin: &str, place: Place) -> Result<(), AllocError> {
     text.push_str(if text.is_empty() {
         "it stands at "

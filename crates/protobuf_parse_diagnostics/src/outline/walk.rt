@@ -7,6 +7,7 @@ use protobuf_parse_syntax::{
     FileTree, Group, Message, MessageStatement, Method, OneOf, OneOfStatement, Place, Service,
     ServiceStatement, Type,
 };
+use protobuf_parse_wire::name_within;
 use std::alloc::{AllocError, Global};
 
 /// Where a statement stands: the full name around it, and the number of the body.
@@ -55,11 +56,6 @@ fn next_scope<'s>(outline: &mut Outline<'_>, name: &'s str) -> Scope<'s> {
     Scope { name, body }
 }
 
-fn full_name(alloc: Global, scope: Scope<'_>, name: &str) -> Result<String, AllocError> {
-    let around = scope.name;
-    format!(in alloc; "{around}.{name}")
-}
-
 /// Notes a declaration, and answers nothing.
 fn declare<'a>(
     alloc: Global,
@@ -83,7 +79,7 @@ fn declare_typed<'a>(
 ) -> Result<(), AllocError> {
     outline.declared.push(Declared {
         kind,
-        full: full_name(alloc, scope, name)?,
+        full: name_within(alloc, scope.name, name)?,
         body: scope.body,
         place,
         type_,
@@ -122,7 +118,7 @@ fn walk_message<'a>(
         message.name.as_str(),
         message.place,
     )?;
-    let name = full_name(alloc, scope, message.name.as_str())?;
+    let name = name_within(alloc, scope.name, message.name.as_str())?;
     let inside = next_scope(outline, &name);
     for statement in &message.body {
         walk_message_statement(alloc, outline, inside, statement)?;
@@ -243,7 +239,7 @@ fn walk_map(
 ) -> Result<(), AllocError> {
     let entry = entry_name(alloc, name)?;
     declare(alloc, outline, scope, DeclaredKind::Message, &entry, place)?;
-    let name = full_name(alloc, scope, &entry)?;
+    let name = name_within(alloc, scope.name, &entry)?;
     let inside = next_scope(outline, &name);
     declare(alloc, outline, inside, DeclaredKind::Field, "key", place)?;
     declare(alloc, outline, inside, DeclaredKind::Field, "value", place)
@@ -269,7 +265,7 @@ fn walk_group<'a>(
         name,
         group.place,
     )?;
-    let name = full_name(alloc, scope, name)?;
+    let name = name_within(alloc, scope.name, name)?;
     let inside = next_scope(outline, &name);
     for field in &group.fields {
         walk_field(alloc, outline, inside, DeclaredKind::Field, field)?;
@@ -292,7 +288,7 @@ fn walk_enum<'a>(
         each.place,
     )?;
     let values = next_scope(outline, scope.name);
-    let name = full_name(alloc, scope, each.name.as_str())?;
+    let name = name_within(alloc, scope.name, each.name.as_str())?;
     for statement in &each.body {
         match statement {
             EnumStatement::Reserved(it) => {
@@ -340,7 +336,7 @@ fn walk_service<'a>(
         service.name.as_str(),
         service.place,
     )?;
-    let name = full_name(alloc, scope, service.name.as_str())?;
+    let name = name_within(alloc, scope.name, service.name.as_str())?;
     let inside = next_scope(outline, &name);
     for statement in &service.body {
         if let ServiceStatement::Method(method) = statement {
