@@ -3,9 +3,9 @@
 
 Run it at the top of the repository: scripts/definitions.py prints each file of specs/ that has
 such a definition, with the lines of these definitions and of the whole file, and the sum. With
---unused it lists the definitions of specs/ that no public clause rests on. A file that has none
-begins with the line MARK, and docs/definitions.md says the sums; where that is not so the status is
-1.
+--unused it lists the definitions of specs/ that no public clause rests on. They stand in files of
+their own, which begin with the line MARK, and docs/definitions.md says the sums; where that is not
+so the status is 1.
 """
 
 import re
@@ -103,11 +103,12 @@ def link(texts, found, passed_on):
             code = re.sub(r"--.*", "", part)
             here = {found[(module, n)] for n in names_in(part) if (module, n) in found}
             for word in TOKEN.findall(code):
-                target = resolve(word, module, names, aliases, own)
-                target = passed_on.get(target, target)
-                if target in found:
-                    for definition in here:
-                        definition.rests_on.add(found[target])
+                for name in (word, f"◌{word}◌") if word != "do" else ("◌>>=◌", "◌>>◌"):
+                    target = resolve(name, module, names, aliases, own)
+                    target = passed_on.get(target, target)
+                    if target in found:
+                        for definition in here:
+                            definition.rests_on.add(found[target])
 
 
 def exported(crate):
@@ -214,11 +215,14 @@ def main():
     print(f"{sum(lines.values()):5} in {len(lines)} files")
     for path in wrong:
         print(f"its first line is wrong: {path}")
+    mixed = [(d.path, name) for (_, name), d in found.items() if d not in needed and d.path in lines]
+    for path, name in sorted(mixed):
+        print(f"no public clause rests on {name}, which stands among others: {path}")
     said = sentence(lines)
     is_told = said in PAGE.read_text()
     if not is_told:
         print(f"{PAGE} doesn't say: {said}")
-    return 1 if wrong or not is_told else 0
+    return 1 if wrong or mixed or not is_told else 0
 
 
 sys.exit(main())
