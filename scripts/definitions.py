@@ -60,9 +60,13 @@ def paragraphs(text):
 
 
 def names_in(part):
-    """The names that a paragraph defines: its signatures, fields and constructors."""
-    names = set()
+    """The names that a paragraph defines: its signatures and constructors, and no fields."""
+    names, record = set(), None
     for line in part.split("\n"):
+        depth = len(line) - len(line.lstrip())
+        if record is not None and depth > record:
+            continue
+        record = depth if re.match(r"\s*(abbrev |unfoldable )?(pub )?record ", line) else None
         found = None if line.strip().startswith("--") else SIGNATURE.match(line)
         if found:
             names.add(found.group(1) or found.group(2))

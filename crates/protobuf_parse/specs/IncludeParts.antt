@@ -1,8 +1,6 @@
 -- No public clause rests on this file.
 -- The parts of paths, as the code sees them, and the faults of includes and of names.
-use Rattle.std.specs.Prelude.{◌≡◌, ℕ, List, ◌∷◌}
-use Rattle.std.specs.Prelude.{Option, option_map}
-use Rattle.std.specs.Prelude.{string_bytes}
+use Rattle.std.specs.Prelude.{◌≡◌, ℕ, List, ◌∷◌, Option, option_map, string_bytes}
 use Rattle.std.specs.Borrow.{Bor}
 use Rattle.protobuf_parse_base.specs.Characters as char
 use Rattle.protobuf_parse_base.specs.declared.proto_path.error.PathError.{PathError}

@@ -3,11 +3,11 @@
 use Rattle.std.specs.Prelude.{List, Result, Ok, Err}
 use Rattle.std.specs.Global.{Vec}
 use Rattle.protobuf_parse_model.specs.Descriptors.{Text}
+use Rattle.protobuf_parse_model.specs.declared.descriptor.FileDescriptorProto.{FileDescriptorProto}
 use Rattle.protobuf_parse_run.specs.declared.fault.RunFault.{RunFault}
 use Rattle.protobuf_parse_run.specs.declared.log.FileReport.{FileReport}
 use Rattle.protobuf_parse_run.specs.Run.{OrMemory}
 use Rattle.protobuf_parse.specs.Checking.{ChecksOverFolders}
-use Rattle.protobuf_parse_model.specs.declared.descriptor.FileDescriptorProto.{FileDescriptorProto}
 use Rattle.protobuf_parse.specs.Parsers.{RunsOverFolders}
 
 -- or memory ran out

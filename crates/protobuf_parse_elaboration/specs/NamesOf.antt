@@ -1,11 +1,9 @@
 -- No public clause rests on this file.
 -- The names of what stands in lists of descriptors.
 use Rattle.std.specs.Prelude.{List, map}
-use Rattle.protobuf_parse_model.specs.Descriptors.{Text, FieldDescriptor}
-use Rattle.protobuf_parse_model.specs.Descriptors.{EnumDescriptor}
+use Rattle.protobuf_parse_model.specs.Descriptors.{Text, FieldDescriptor, EnumDescriptor}
 use Rattle.protobuf_parse_model.specs.Descriptors.{MessageDescriptor, ServiceDescriptor}
-use Rattle.protobuf_parse_model.specs.Descriptors.{OneofDescriptor}
-use Rattle.protobuf_parse_model.specs.Descriptors.{a_message}
+use Rattle.protobuf_parse_model.specs.Descriptors.{OneofDescriptor, a_message}
 
 -- the names of fields
 abbrev pub names_of_fields : List FieldDescriptor → List Text

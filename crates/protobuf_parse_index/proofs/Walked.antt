@@ -1,5 +1,5 @@
 -- A walk that grows by messages, enums and extensions.
-use Rattle.std.proofs.Common.{◌≡◌, ◌+◌, List, [], ◌∷◌, ◌++◌, map}
+use Rattle.std.proofs.Common.{◌≡◌, List, [], ◌∷◌, ◌++◌, map}
 use Rattle.std.proofs.Common.{refl, sym, ap, subst, ◌∙◌, append_assoc, append-nil}
 use Rattle.std.specs.List.{flat_map}
 use Rattle.std.proofs.lemmas.Grind.{flat_map-append}
@@ -13,7 +13,7 @@ use Rattle.protobuf_parse_model.specs.Descriptors.{MessageParts}
 use Rattle.protobuf_parse_model.proofs.Levels.{message_view_is}
 use Rattle.protobuf_parse_model.specs.Descriptors.{parts_seen}
 use Rattle.protobuf_parse_wire.specs.Declarations.{name_within}
-use Rattle.protobuf_parse_index.specs.Kept.{WalkAdds}
+use Rattle.protobuf_parse_index.specs.Puts.{WalkAdds}
 use Rattle.protobuf_parse_index.specs.Puts.{WalkAddsMessages}
 use Rattle.protobuf_parse_index.specs.Views.{standing_enum, standing_extension, standing_message}
 use Rattle.protobuf_parse_index.specs.Walk.{Standing, enums_inside, extensions_inside}

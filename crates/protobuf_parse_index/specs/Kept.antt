@@ -1,5 +1,5 @@
 -- What the parts of an index say, which callers do not see: its invariant rests on these.
-use Rattle.std.specs.Prelude.{◌≡◌, ℕ, suc, ℤ, Bool, ◌&&◌, List, [], ◌∷◌, ◌++◌, map}
+use Rattle.std.specs.Prelude.{◌≡◌, ℕ, suc, ℤ, Bool, ◌&&◌, List, [], ◌∷◌, map}
 use Rattle.std.specs.Prelude.{Option, Some, None, String, option_map, bytes_eq, if◌then◌else◌}
 use Rattle.std.specs.Option.{option_and_then}
 use Rattle.std.specs.Ordering.{int_cmp, int_eq}
@@ -19,15 +19,6 @@ use Rattle.protobuf_parse_index.specs.Walk.{Standing, all_enums, all_extensions,
 use Rattle.protobuf_parse_index.specs.declared.walk.Walk.{Walk}
 
 -- ---- the walk
-
--- The walk has these in addition.
-pub record WalkAdds (old new : Walk) (ms : List (Standing MessageDescriptor))
-    (es : List (Standing EnumDescriptor)) (xs : List (Standing FieldDescriptor)) : Type 0 where
-  pub messages : map standing_message new.messages.items
-      ≡ map standing_message old.messages.items ++ ms
-  pub enums : map standing_enum new.enums.items ≡ map standing_enum old.enums.items ++ es
-  pub extensions : map standing_extension new.extensions.items
-      ≡ map standing_extension old.extensions.items ++ xs
 
 -- The walk has what the files declare.
 pub record Walks (files : List FileDescriptor) (walk : Walk) : Type 0 where

@@ -1,18 +1,27 @@
 -- No public clause rests on this file.
 -- What one more makes of the maps that an index keeps.
-use Rattle.std.specs.Prelude.{◌≡◌, ℕ, ℤ, ◌&&◌, List, flat_map}
-use Rattle.std.specs.Prelude.{Some, None, String, bytes_eq, if◌then◌else◌}
+use Rattle.std.specs.Prelude.{◌≡◌, ℕ, ℤ, ◌&&◌, List, flat_map, Some, None, String, bytes_eq}
+use Rattle.std.specs.Prelude.{if◌then◌else◌, ◌++◌, map}
 use Rattle.std.specs.Option.{option_or}
 use Rattle.std.specs.Ordering.{int_cmp, int_eq}
 use Rattle.std.specs.BTreeMap.{BTreeMap, get, get_by_text}
 use Rattle.std.specs.Global.{Global}
-use Rattle.protobuf_parse_model.specs.Descriptors.{Text, FieldDescriptor}
-use Rattle.protobuf_parse_model.specs.Descriptors.{MessageDescriptor}
+use Rattle.protobuf_parse_model.specs.Descriptors.{Text, FieldDescriptor, MessageDescriptor}
+use Rattle.protobuf_parse_model.specs.Descriptors.{EnumDescriptor}
 use Rattle.protobuf_parse_wire.specs.Declarations.{extends}
-use Rattle.protobuf_parse_index.specs.Walk.{Standing}
-use Rattle.protobuf_parse_index.specs.Walk.{enums_inside, extensions_inside}
+use Rattle.protobuf_parse_index.specs.Walk.{Standing, enums_inside, extensions_inside}
 use Rattle.protobuf_parse_index.specs.declared.walk.Walk.{Walk}
-use Rattle.protobuf_parse_index.specs.Kept.{Extended, WalkAdds, extended_at}
+use Rattle.protobuf_parse_index.specs.Kept.{Extended, extended_at}
+use Rattle.protobuf_parse_index.specs.Views.{standing_enum, standing_extension, standing_message}
+
+-- The walk has these in addition.
+pub record WalkAdds (old new : Walk) (ms : List (Standing MessageDescriptor))
+    (es : List (Standing EnumDescriptor)) (xs : List (Standing FieldDescriptor)) : Type 0 where
+  pub messages : map standing_message new.messages.items
+      ≡ map standing_message old.messages.items ++ ms
+  pub enums : map standing_enum new.enums.items ≡ map standing_enum old.enums.items ++ es
+  pub extensions : map standing_extension new.extensions.items
+      ≡ map standing_extension old.extensions.items ++ xs
 
 -- The walk has these messages in addition, and what stands in them.
 abbrev pub WalkAddsMessages : Walk → Walk → List (Standing MessageDescriptor) → Type 0

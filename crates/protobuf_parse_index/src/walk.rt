@@ -3,7 +3,8 @@
 ghost use Rattle.std.specs.Prelude.{◌≡◌, ◌++◌, [], map, flat_map, OnOk, IfOk, string_bytes};
 ghost use Rattle.protobuf_parse_model.specs.Descriptors.{enum_view, field_view, file_view};
 ghost use Rattle.protobuf_parse_model.specs.Descriptors.{message_view};
-ghost use Rattle.protobuf_parse_index.specs.Kept.{WalkAdds, Walks};
+ghost use Rattle.protobuf_parse_index.specs.Kept.{Walks};
+ghost use Rattle.protobuf_parse_index.specs.Puts.{WalkAdds};
 ghost use Rattle.protobuf_parse_index.specs.Puts.{WalkAddsMessages};
 ghost use Rattle.protobuf_parse_index.specs.Views.{standing_enum, standing_extension};
 ghost use Rattle.protobuf_parse_index.specs.Walk.{enums_of, enums_within, extensions_of};

@@ -1,7 +1,6 @@
 -- No public clause rests on this file.
 -- What a cut of a text answers before its nesting is looked at.
-use Rattle.std.specs.Prelude.{◌≡◌, ◌⊎◌, List, [], map}
-use Rattle.std.specs.Prelude.{Result, MatchResult}
+use Rattle.std.specs.Prelude.{◌≡◌, ◌⊎◌, List, [], map, Result, MatchResult}
 use Rattle.protobuf_parse_lexer.specs.Text.{Bytes, IsFault}
 use Rattle.protobuf_parse_lexer.specs.Tokens.{Lexeme, lexeme}
 use Rattle.protobuf_parse_lexer.specs.declared.error.ParserErrorWithLocation.{ParserErrorWithLocation}

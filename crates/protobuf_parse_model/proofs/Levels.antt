@@ -1,15 +1,13 @@
 -- One level of what nests.
 use Rattle.std.specs.Prelude.{◌≡◌, List, [], ◌∷◌, map, refl}
+use Rattle.protobuf_parse_syntax.specs.Trees.{FieldStatementSyntax, field_statements}
+use Rattle.protobuf_parse_syntax.specs.Trees.{MessageStatementSyntax, message_statements}
 use Rattle.protobuf_parse_model.specs.declared.descriptor.DescriptorProto.{DescriptorProto}
 use Rattle.protobuf_parse_model.specs.declared.descriptor.DescriptorProto.{out-DescriptorProto}
 use Rattle.protobuf_parse_model.specs.declared.descriptor.DescriptorProto.TheFolds.{fold_out-DescriptorProto}
 use Rattle.protobuf_parse_model.specs.Descriptors.{MessageDescriptor, a_message, message_parts}
 use Rattle.protobuf_parse_model.specs.Descriptors.{message_step, message_view, messages_list}
 use Rattle.protobuf_parse_model.specs.Descriptors.{messages_of_list}
-use Rattle.protobuf_parse_syntax.specs.Trees.{FieldStatementSyntax}
-use Rattle.protobuf_parse_syntax.specs.Trees.{field_statements}
-use Rattle.protobuf_parse_syntax.specs.Trees.{MessageStatementSyntax}
-use Rattle.protobuf_parse_syntax.specs.Trees.{message_statements}
 use Rattle.protobuf_parse_model.specs.Statements.{group_body, message_body}
 
 -- a message seen one level deep

@@ -24,7 +24,7 @@ use Rattle.protobuf_parse_model.specs.Descriptors.{Text}
 use Rattle.protobuf_parse_model.specs.DeclaredAt.{DeclaredAt, file_at}
 use Rattle.protobuf_parse_model.specs.ByHash.{listed}
 use Rattle.protobuf_parse_model.specs.SeenFiles.{declared_as}
-use Rattle.protobuf_parse_model.specs.Tables.{AddsOne, SaysSame}
+use Rattle.protobuf_parse_model.specs.TableParts.{AddsOne, SaysSame}
 use Rattle.protobuf_parse_model.specs.TableParts.{KeepsListed, ListsOne}
 use Rattle.protobuf_parse_model.specs.Tables.{ListsRepeated, TableTells, name_list, names_listed}
 use Rattle.protobuf_parse_model.specs.Tables.{declared_by, declared_in, listed_names}

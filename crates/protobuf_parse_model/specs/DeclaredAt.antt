@@ -3,13 +3,13 @@
 -- map or a group is declared at the map or the group.
 use Rattle.std.specs.Prelude.{List, [], ◌∷◌, ◌++◌, flat_map, if◌then◌else◌}
 use Rattle.protobuf_parse_lexer.specs.declared.lexer.token.Place.{Place}
-use Rattle.protobuf_parse_syntax.specs.Trees.{FieldStatementSyntax, field, group}
-use Rattle.protobuf_parse_syntax.specs.Trees.{FileSyntax, StatementSyntax, file_enum, file_extend}
-use Rattle.protobuf_parse_syntax.specs.Trees.{file_message, nested_message}
-use Rattle.protobuf_parse_syntax.specs.Trees.{MessageStatementSyntax, message_enum, message_extend}
-use Rattle.protobuf_parse_syntax.specs.Trees.{message_field, message_message, message_oneof}
-use Rattle.protobuf_parse_syntax.specs.Trees.{MessageStatementList, no_statements, more_statements}
-use Rattle.protobuf_parse_syntax.specs.Trees.{OneofStatementSyntax, oneof_field, oneof_option}
+use Rattle.protobuf_parse_syntax.specs.Trees.{FieldStatementSyntax, field, group, FileSyntax}
+use Rattle.protobuf_parse_syntax.specs.Trees.{StatementSyntax, file_enum, file_extend, file_message}
+use Rattle.protobuf_parse_syntax.specs.Trees.{nested_message, MessageStatementSyntax, message_enum}
+use Rattle.protobuf_parse_syntax.specs.Trees.{message_extend, message_field, message_message}
+use Rattle.protobuf_parse_syntax.specs.Trees.{message_oneof, MessageStatementList, no_statements}
+use Rattle.protobuf_parse_syntax.specs.Trees.{more_statements, OneofStatementSyntax, oneof_field}
+use Rattle.protobuf_parse_syntax.specs.Trees.{oneof_option}
 use Rattle.protobuf_parse_model.specs.declared.scope.seen.DeclarationKind.{DeclarationKind}
 use Rattle.protobuf_parse_model.specs.declared.scope.seen.DeclarationKind.TheVariants as kind
 use Rattle.protobuf_parse_model.specs.Descriptors.{Text}

@@ -1,12 +1,11 @@
 -- No public clause rests on this file.
 -- What is seen, as the code takes it apart.
-use Rattle.std.specs.Prelude.{List, [], ◌∷◌}
-use Rattle.std.specs.Prelude.{Option, None}
+use Rattle.std.specs.Prelude.{List, [], ◌∷◌, Option, None}
 use Rattle.std.specs.Option.{option_or}
+use Rattle.protobuf_parse_syntax.specs.Trees.{FileSyntax}
 use Rattle.protobuf_parse_model.specs.declared.scope.seen.TypeKind.{TypeKind}
 use Rattle.protobuf_parse_model.specs.declared.scope.seen.Declaration.{Declaration}
 use Rattle.protobuf_parse_model.specs.declared.scope.seen.Seen.{Seen}
-use Rattle.protobuf_parse_syntax.specs.Trees.{FileSyntax}
 use Rattle.protobuf_parse_model.specs.Declarations.{file_scope}
 use Rattle.protobuf_parse_model.specs.Environment.{Environment, Customs}
 use Rattle.protobuf_parse_model.specs.SeenFiles.{seen_types, type_kind}

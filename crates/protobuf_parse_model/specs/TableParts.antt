@@ -1,9 +1,8 @@
 -- No public clause rests on this file.
 -- What the code reads of a table of declarations, and what it adds to it.
-use Rattle.std.specs.Prelude.{ℕ, ◌<◌, Bool, true, false, ◌&&◌, List, [], ◌++◌}
-use Rattle.std.specs.Prelude.{flat_map, filter, length, nat_eq, nat_lt}
-use Rattle.std.specs.Prelude.{if◌then◌else◌, Contains}
-use Rattle.std.specs.Prelude.{String}
+use Rattle.std.specs.Prelude.{ℕ, ◌<◌, Bool, true, false, ◌&&◌, List, [], ◌++◌, flat_map, filter}
+use Rattle.std.specs.Prelude.{length, nat_eq, nat_lt, if◌then◌else◌, Contains, String, ◌≡◌, ◌∷◌}
+use Rattle.std.specs.Prelude.{bytes_eq}
 use Rattle.std.specs.List.{list_any}
 use Rattle.std.specs.Global.{Global, Vec}
 use Rattle.std.specs.BTreeMap.{BTreeMap, keys}
@@ -19,6 +18,17 @@ use Rattle.protobuf_parse_model.specs.Duplicates.{fault_when}
 use Rattle.protobuf_parse_model.specs.Linking.{beginning}
 use Rattle.protobuf_parse_model.specs.SeenFiles.{declared_as}
 use Rattle.protobuf_parse_model.specs.Tables.{ListsRepeated, is_of, listed_names, names_listed}
+
+-- the declaration was added at the end of those of its full name
+pub record AddsOne (old new : Declarations) (full : Text) (d : Declaration) : Type 0 where
+  pub declares : (name : Text)
+      → declared_as new name ≡ declared_as old name ++ (if bytes_eq full name then d ∷ [] else [])
+  pub lists : ListsRepeated old → ListsRepeated new
+
+-- tables that say the same of each name
+pub record SaysSame (old new : Declarations) : Type 0 where
+  pub declares : (name : Text) → declared_as new name ≡ declared_as old name
+  pub lists : new.repeated ≡ old.repeated
 
 -- each name is still listed for the files for which it was
 abbrev pub KeepsListed : BTreeMap ℕ (Vec (String Global)) → BTreeMap ℕ (Vec (String Global))

@@ -1,7 +1,7 @@
 -- What a table of declarations tells of files.
 use Rattle.std.specs.Prelude.{◌≡◌, ℕ, ◌<◌, suc, Bool, not, List, [], ◌∷◌, ◌++◌}
 use Rattle.std.specs.Prelude.{map, flat_map, filter, length, bytes_eq, string_bytes}
-use Rattle.std.specs.Prelude.{option_to_list, slice_get, if◌then◌else◌, Contains}
+use Rattle.std.specs.Prelude.{option_to_list, slice_get, Contains}
 use Rattle.std.specs.Prelude.{Option, Some, None, String}
 use Rattle.std.specs.Global.{Global, Vec}
 use Rattle.std.specs.BTreeMap.{BTreeMap, get}
@@ -49,17 +49,6 @@ ListsRepeated table = (name : Text) → 1 < length (declared_as table name)
 pub record TableTells (table : Declarations) (files : List FileSyntax) : Type 0 where
   pub declares : (name : Text) → declared_as table name ≡ declared_in name 0 files
   pub lists : ListsRepeated table
-
--- the declaration was added at the end of those of its full name
-pub record AddsOne (old new : Declarations) (full : Text) (d : Declaration) : Type 0 where
-  pub declares : (name : Text)
-      → declared_as new name ≡ declared_as old name ++ (if bytes_eq full name then d ∷ [] else [])
-  pub lists : ListsRepeated old → ListsRepeated new
-
--- tables that say the same of each name
-pub record SaysSame (old new : Declarations) : Type 0 where
-  pub declares : (name : Text) → declared_as new name ≡ declared_as old name
-  pub lists : new.repeated ≡ old.repeated
 
 -- the files with these numbers
 abbrev pub picked : {T : Type 0} → List T → List ℕ → List T

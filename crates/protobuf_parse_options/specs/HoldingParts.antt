@@ -1,8 +1,8 @@
 -- No public clause rests on this file.
 -- What the code reads of an index of spots, and what it adds to it.
-use Rattle.std.specs.Prelude.{◌≡◌, ℕ, List, [], ◌∷◌, ◌++◌, map, flat_map, filter, bytes_eq}
-use Rattle.std.specs.Prelude.{nat_eq, String, string_bytes, Option, Some, None}
-use Rattle.std.specs.Prelude.{ℤ, option_to_list, if◌then◌else◌}
+use Rattle.std.specs.Prelude.{◌≡◌, ℕ, List, [], ◌∷◌, ◌++◌, map, flat_map, filter, bytes_eq, nat_eq}
+use Rattle.std.specs.Prelude.{String, string_bytes, Option, Some, None, ℤ, option_to_list}
+use Rattle.std.specs.Prelude.{if◌then◌else◌}
 use Rattle.std.specs.Borrow.{Bor}
 use Rattle.std.specs.Global.{Global, Vec}
 use Rattle.std.specs.BTreeMap.{BTreeMap}
@@ -18,13 +18,10 @@ use Rattle.protobuf_parse_options.specs.declared.spots.members.Members.{Members}
 use Rattle.protobuf_parse_options.specs.declared.spots.picked.PickedFiles.{PickedFiles}
 use Rattle.protobuf_parse_options.specs.declared.spots.Spot.{Spot}
 use Rattle.protobuf_parse_options.specs.Views.{field_seen}
-use Rattle.protobuf_parse_options.specs.Spots.{Inside, SpottedView, inside_file}
-use Rattle.protobuf_parse_options.specs.SpotsInside.{down, one_inside}
-use Rattle.protobuf_parse_options.specs.Spots.{enums_inside}
-use Rattle.protobuf_parse_options.specs.SpotsInside.{messages_inside}
-use Rattle.protobuf_parse_options.specs.Positioned.{field_inside}
+use Rattle.protobuf_parse_options.specs.Spots.{Inside, SpottedView, inside_file, enums_inside}
+use Rattle.protobuf_parse_options.specs.SpotsInside.{down, one_inside, messages_inside}
+use Rattle.protobuf_parse_options.specs.Positioned.{field_inside, number_inside}
 use Rattle.protobuf_parse_options.specs.Positions.{kept_position}
-use Rattle.protobuf_parse_options.specs.Positioned.{number_inside}
 use Rattle.protobuf_parse_options.specs.Holding.{SpotView, files_under, spots_under}
 
 abbrev pub members_view : Members → Inside

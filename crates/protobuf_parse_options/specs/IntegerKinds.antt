@@ -1,7 +1,6 @@
 -- No public clause rests on this file.
 -- The kinds of integers that fields take.
-use Rattle.std.specs.Prelude.{Option}
-use Rattle.std.specs.Prelude.{Some, None}
+use Rattle.std.specs.Prelude.{Option, Some, None}
 use Rattle.protobuf_parse_wire.specs.declared.kind.Kind.{Kind}
 use Rattle.protobuf_parse_options.specs.OptionFields.{Takes, integers}
 

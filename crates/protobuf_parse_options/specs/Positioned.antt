@@ -1,7 +1,7 @@
 -- No public clause rests on this file.
 -- What stands at a position that is kept, or else is found by its name.
-use Rattle.std.specs.Prelude.{ℕ, ℤ, List, length, nat_lt, Option, Some}
-use Rattle.std.specs.Prelude.{None, option_map, slice_get, if◌then◌else◌}
+use Rattle.std.specs.Prelude.{ℕ, ℤ, List, length, nat_lt, Option, Some, None, option_map, slice_get}
+use Rattle.std.specs.Prelude.{if◌then◌else◌}
 use Rattle.protobuf_parse_model.specs.Descriptors.{Text, FieldDescriptor, EnumDescriptor}
 use Rattle.protobuf_parse_model.specs.Descriptors.{EnumValueDescriptor, MessageDescriptor}
 use Rattle.protobuf_parse_model.specs.Descriptors.{parts_seen}

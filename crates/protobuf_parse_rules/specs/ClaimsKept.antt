@@ -1,7 +1,6 @@
 -- No public clause rests on this file.
 -- What the map of claims has.
-use Rattle.std.specs.Prelude.{◌≡◌, ℕ, ℤ, List, ◌++◌, Option}
-use Rattle.std.specs.Prelude.{Some, None, option_map}
+use Rattle.std.specs.Prelude.{◌≡◌, ℕ, ℤ, List, ◌++◌, Option, Some, None, option_map, flat_map}
 use Rattle.std.specs.Ordering.{int_cmp, nat_cmp, ordering_then}
 use Rattle.std.specs.declared.cmp.Ordering.{Ordering}
 use Rattle.std.specs.Borrow.{Bor}
@@ -15,7 +14,6 @@ use Rattle.protobuf_parse_rules.specs.declared.claims.Holder.{Holder}
 use Rattle.protobuf_parse_rules.specs.declared.claims.Thing as code
 use Rattle.protobuf_parse_rules.specs.declared.violation.Violation.{Violation}
 use Rattle.protobuf_parse_rules.specs.Claims.{Claim, Rules, Thing, Who, conflicts, first_claim}
-use Rattle.std.specs.Prelude.{flat_map}
 use Rattle.protobuf_parse_rules.specs.Places.{Place}
 use Rattle.protobuf_parse_rules.specs.Numbers.{claims}
 use Rattle.protobuf_parse_rules.specs.Violations.{breaches_after}

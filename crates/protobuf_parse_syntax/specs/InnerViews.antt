@@ -9,8 +9,8 @@ use Rattle.protobuf_parse_syntax.specs.declared.tree.declaration.MessageStatemen
 use Rattle.protobuf_parse_syntax.specs.Trees.{ConstantFieldSyntax, GroupSyntax}
 use Rattle.protobuf_parse_syntax.specs.Trees.{MessageStatementSyntax, MessageSyntax}
 use Rattle.protobuf_parse_syntax.specs.Trees.{constant_name_syntax, constant_syntax}
-use Rattle.protobuf_parse_syntax.specs.Trees.{field_statement_syntax}
-use Rattle.protobuf_parse_syntax.specs.Trees.{message_statement_step, message_step}
+use Rattle.protobuf_parse_syntax.specs.Trees.{field_statement_syntax, message_statement_step}
+use Rattle.protobuf_parse_syntax.specs.Trees.{message_step}
 
 abbrev pub constant_field_syntax : ConstantField → ConstantFieldSyntax
 constant_field_syntax f =

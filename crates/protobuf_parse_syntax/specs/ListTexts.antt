@@ -1,12 +1,10 @@
 -- No public clause rests on this file.
 -- The texts of lists in constants.
-use Rattle.std.specs.Prelude.{List, ◌++◌, map}
-use Rattle.std.specs.Prelude.{flat_map, codes}
+use Rattle.std.specs.Prelude.{List, ◌++◌, map, flat_map, codes}
 use Rattle.std.specs.List.{join_with_byte}
 use Rattle.protobuf_parse_base.specs.Characters as char
 use Rattle.protobuf_parse_lexer.specs.Text.{Bytes}
-use Rattle.protobuf_parse_syntax.specs.Trees.{ConstantSyntax}
-use Rattle.protobuf_parse_syntax.specs.Trees.{ConstantFieldSyntax}
+use Rattle.protobuf_parse_syntax.specs.Trees.{ConstantSyntax, ConstantFieldSyntax}
 use Rattle.protobuf_parse_syntax.specs.Formats.{field_text, format}
 
 abbrev pub constant_field_text : ConstantFieldSyntax → Bytes

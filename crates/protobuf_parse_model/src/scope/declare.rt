@@ -12,7 +12,7 @@ ghost use Rattle.protobuf_parse_model.specs.Descriptors.{Text};
 ghost use Rattle.protobuf_parse_model.specs.ByHash.{hash_of};
 ghost use Rattle.protobuf_parse_model.specs.FileOrder.{FilesAscend};
 ghost use Rattle.protobuf_parse_model.specs.SeenFiles.{declared_as, name_texts};
-ghost use Rattle.protobuf_parse_model.specs.Tables.{AddsOne, SaysSame};
+ghost use Rattle.protobuf_parse_model.specs.TableParts.{AddsOne, SaysSame};
 ghost use Rattle.protobuf_parse_model.specs.TableParts.{KeepsListed, ListsOne};
 ghost use Rattle.protobuf_parse_model.specs.Tables.{TableTells};
 ghost use Rattle.protobuf_parse_model.specs.Tables.{names_listed};

@@ -4,7 +4,7 @@ use Rattle.std.proofs.lemmas.List.{map-append}
 use Rattle.std.proofs.lemmas.Result.{on_ok_weaker}
 use Rattle.protobuf_parse_model.specs.Descriptors.{Text, enum_view, field_view}
 use Rattle.protobuf_parse_model.specs.Descriptors.{message_view}
-use Rattle.protobuf_parse_index.specs.Kept.{WalkAdds}
+use Rattle.protobuf_parse_index.specs.Puts.{WalkAdds}
 use Rattle.protobuf_parse_index.specs.Puts.{WalkAddsMessages}
 use Rattle.protobuf_parse_index.specs.Views.{standing_message}
 use Rattle.protobuf_parse_index.specs.Walk.{enums_within, extensions_within}

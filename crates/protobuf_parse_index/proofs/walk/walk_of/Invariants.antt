@@ -1,6 +1,6 @@
 use Rattle.std.proofs.Common.{map, take}
 use Rattle.protobuf_parse_model.specs.Descriptors.{file_view}
-use Rattle.protobuf_parse_index.specs.Kept.{WalkAdds}
+use Rattle.protobuf_parse_index.specs.Puts.{WalkAdds}
 use Rattle.protobuf_parse_index.specs.Walk.{all_enums, all_extensions, all_messages}
 use Rattle.protobuf_parse_index.proofs.walk.walk_of.Given as goal
 

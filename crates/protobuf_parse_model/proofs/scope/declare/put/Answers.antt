@@ -2,7 +2,7 @@ use Rattle.std.proofs.Common.{◌≡◌, ap, string_bytes, subst}
 use Rattle.std.specs.Prelude.{IfSome, Option, String, is_some}
 use Rattle.std.specs.Global.{Global}
 use Rattle.std.proofs.lemmas.Result.{on_ok_weaker}
-use Rattle.protobuf_parse_model.specs.Tables.{AddsOne}
+use Rattle.protobuf_parse_model.specs.TableParts.{AddsOne}
 use Rattle.protobuf_parse_model.proofs.Tables.{adds_after_same}
 use Rattle.protobuf_parse_model.proofs.scope.declare.put.Goals as goal
 
