@@ -7,3 +7,4 @@ pub mod IdentLists
 pub mod PathTexts
 pub mod CaseTexts
 pub mod EscapeTexts
+pub mod JoinedParts

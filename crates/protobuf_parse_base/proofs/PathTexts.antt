@@ -1,13 +1,12 @@
 -- Proto paths as lists of parts.
 use Rattle.std.specs.Prelude.{if◌then◌else◌}
-use Rattle.std.proofs.Common.{◌≡◌, ℕ, ◌==◌, ◌<◌, ◌+◌, ◌++◌, ◌&&◌, ◌||◌, List, [], ◌∷◌, Bool, true}
+use Rattle.std.proofs.Common.{◌≡◌, ℕ, ◌==◌, ◌<◌, ◌+◌, ◌&&◌, ◌||◌, List, [], ◌∷◌, Bool, true}
 use Rattle.std.proofs.Common.{false, not, Option, None, Some, length, get_or, drop, refl, sym, ap}
-use Rattle.std.proofs.Common.{◌∙◌, append_assoc, arith, inl, inr, map, Bor}
+use Rattle.std.proofs.Common.{◌∙◌, arith, inl, inr}
 use Rattle.std.proofs.lemmas.Bool.{cases_Bool, and_parts, and_from, cond-true, cond-false, ne_eqb}
 use Rattle.std.proofs.lemmas.Bool.{not-true, not_from_false, or_parts, or_from}
-use Rattle.std.proofs.lemmas.List.{at_drop_more, map_push}
+use Rattle.std.proofs.lemmas.List.{at_drop_more}
 use Rattle.std.proofs.lemmas.List.Folds.{list_any-append}
-use Rattle.std.proofs.lemmas.List.Elements.{filter-append}
 use Rattle.std.proofs.lemmas.List.Splits.{slice_split-cons_yes, slice_split-cons_no}
 use Rattle.std.proofs.lemmas.List.Splits.{join_with_byte-slice_split}
 use Rattle.std.specs.List.{list_all, list_any, onto_first}
@@ -214,26 +213,6 @@ path_fault-proto_path text h = ap path_fault h.3 ∙ path_fault-joined h.0 h.1 h
 
 -- ---- the parts that are kept of a path of the host
 
--- one part more
-joined-append : (first : List ℕ) (parts : List (List ℕ)) (part : List ℕ)
-    → joined (first ∷ (parts ++ part ∷ [])) ≡ joined (first ∷ parts) ++ (47 ∷ part)
-joined-append first [] part = refl
-joined-append first (next ∷ parts) part =
-    ap (λ rest. first ++ (47 ∷ rest)) (joined-append next parts part)
-    ∙ sym (append_assoc first (47 ∷ joined (next ∷ parts)) (47 ∷ part))
-
-joined-push : (parts : List (List ℕ)) (part : List ℕ)
-    → list_all (λ p. not (is_empty p)) parts ≡ true
-    → (if length (joined parts) == 0 then part else joined parts ++ (47 ∷ part))
-    ≡ joined (parts ++ part ∷ [])
-joined-push [] part h = refl
-joined-push (first ∷ parts) part h =
-    let full : is_empty first
-    ≡ false = not-true (is_empty first)
-    (and_parts (not (is_empty first)) (list_all (λ p. not (is_empty p)) parts) h).0 in
-    cond-false (is_empty (joined (first ∷ parts))) _ _ (joined-nonempty first parts full)
-    ∙ sym (joined-append first parts part)
-
 abbrev is_kept : List ℕ → Bool
 is_kept part = not (is_empty part || is_dot part)
 
@@ -252,27 +231,6 @@ kept_of-nonempty (part ∷ parts) =
       | inr dropped ↦ ap (list_all (λ p. not (is_empty p))) (cond-false (is_kept part) _ _ dropped)
           ∙ kept_of-nonempty parts
     ]
-
-kept_of-push_kept : (parts : List (List ℕ)) (part : List ℕ) → is_kept part ≡ true
-    → kept_of (parts ++ part ∷ []) ≡ kept_of parts ++ part ∷ []
-kept_of-push_kept parts part kept = filter-append is_kept parts (part ∷ [])
-    ∙ ap (λ last. kept_of parts ++ last) (cond-true (is_kept part) _ _ kept)
-
--- the text of the parts so far, after one turn of the loop
-pub joined-turn_kept : (seen : List (Bor (List ℕ))) (part : Bor (List ℕ)) (text next : List ℕ)
-    → is_empty part.now ≡ false → is_dot part.now ≡ false
-    → text ≡ joined (kept_of (map (λ p. p.now) seen))
-    → next ≡ (if length text == 0 then part.now else text ++ (47 ∷ part.now))
-    → next ≡ joined (kept_of (map (λ p. p.now) (seen ++ part ∷ [])))
-joined-turn_kept seen part text next full no_dot before step =
-    let parts : List (List ℕ) = map (λ p. p.now) seen in
-    let kept : is_kept part.now
-    ≡ true = not_from_false (is_empty part.now || is_dot part.now)
-    (or_from (is_empty part.now) (is_dot part.now) full no_dot) in
-    step ∙ (ap (λ t. if length t == 0 then part.now else t ++ (47 ∷ part.now)) before
-    ∙ (joined-push (kept_of parts) part.now (kept_of-nonempty parts)
-    ∙ ap joined (sym (kept_of-push_kept parts part.now kept)
-    ∙ ap kept_of (sym (map_push (λ (p : Bor (List ℕ)). p.now) seen part)))))
 
 -- the parts that are kept are parts of a proto path
 kept-part : (a b c d : Bool) → not (a || b) ≡ true → c ≡ false → d ≡ true

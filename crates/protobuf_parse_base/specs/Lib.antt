@@ -5,16 +5,8 @@ pub mod DeclaredNames
 pub mod Undo
 pub mod Paths
 pub mod PathViews
+pub mod PathParts
 pub mod ByText
 pub mod Cases
 pub mod Escapes
-pub mod Relations
-pub mod Readers
-pub mod Combinators
-pub mod Conditions
-pub mod Depth
-pub mod Pairs
-pub mod Whole
-pub mod Loops
 pub mod Multimaps
-pub mod Restrictions

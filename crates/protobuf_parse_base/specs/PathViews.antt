@@ -1,5 +1,6 @@
--- What a clause reads of a proto path: its text.
-use Rattle.std.specs.Prelude.{ℕ, List}
+-- What a clause reads of a proto path, its text, and of parts.
+use Rattle.std.specs.Prelude.{ℕ, List, map}
+use Rattle.std.specs.Borrow.{Bor}
 use Rattle.std.specs.String.{string_bytes}
 use Rattle.protobuf_parse_base.specs.declared.proto_path.path.ProtoPath.{ProtoPath}
 use Rattle.protobuf_parse_base.specs.declared.proto_path.path.ProtoPathBuf.{ProtoPathBuf}
@@ -9,3 +10,7 @@ path_text path = path.text.now
 
 abbrev pub path_buf_text : ProtoPathBuf → List ℕ
 path_buf_text path = string_bytes path.text
+
+-- parts that are lent
+abbrev pub part_texts : List (Bor (List ℕ)) → List (List ℕ)
+part_texts parts = map (λ (p : Bor (List ℕ)). p.now) parts

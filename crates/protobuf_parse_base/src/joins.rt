@@ -19,8 +19,9 @@ pub(crate) fn push_part(text: &mut String, separator: char, part: &str) -> Resul
     text.push_str(part)
 }
 
-/// The text of `front`, a dot and `back`, in one allocation.
-pub(crate) fn join_at_dot(alloc: Global, front: &str, back: &str) -> Result<String, AllocError>
+/// The text of `front`, a dot and `back`, in one request for memory. The one error is that memory
+/// is short.
+pub fn join_at_dot(alloc: Global, front: &str, back: &str) -> Result<String, AllocError>
     ensures { IfOk result (λ joined. string_bytes joined ≡ front.now ++ char.dot ∷ back.now) }
 {
     let mut joined = String::with_capacity(alloc, front.len() + back.len() + 1)?;

@@ -3,7 +3,7 @@
 #![tactic(auto)]
 
 pub mod by_text;
-mod joins;
+pub mod joins;
 pub mod multimap;
 mod name;
 pub mod names;

@@ -7,7 +7,7 @@ use Rattle.std.proofs.lemmas.Bool.{false≢true, and_parts}
 use Rattle.std.proofs.lemmas.List.{get_or-map, length-map, take_more}
 use Rattle.protobuf_parse_lexer.specs.Scan.{is_no_backslash}
 use Rattle.protobuf_parse_lexer.specs.Text.{Bytes, is_in, AllIn}
-use Rattle.protobuf_parse_lexer.specs.Tokens.{IsEscape, Decodes, done, plain, escape, DecodesAll}
+use Rattle.protobuf_parse_lexer.specs.Tokens.{IsEscape, Decodes, done, as_is, escape, DecodesAll}
 use Rattle.protobuf_parse_lexer.specs.Tokens.{none, piece}
 use Rattle.protobuf_parse_lexer.specs.PieceParts.{HasNoEscape, IsPart}
 use Rattle.protobuf_parse_lexer.specs.Escapes.{one_escape}
@@ -28,22 +28,22 @@ pub record Goes (whole rest v : Bytes) : Type 0 where
 no_slash : {X : Type 0} (b : ℕ) (z : Bytes) → (b ≡ 92 → ⊥) → slice_index (b ∷ z) 0 ≡ 92 → X
 no_slash b z bad is = absurd (bad is)
 
-after_plain : {b : ℕ} {z u : Bytes} → (b ≡ 92 → ⊥) → Decodes (b ∷ z) u → (w : Bytes) × Decodes z w
-after_plain {b} {z} bad (plain {v = v} b' bad' d) = (v, d)
-after_plain {b} {z} bad (escape n w is e d) = no_slash b z bad is
+after_as_is : {b : ℕ} {z u : Bytes} → (b ≡ 92 → ⊥) → Decodes (b ∷ z) u → (w : Bytes) × Decodes z w
+after_as_is {b} {z} bad (as_is {v = v} b' bad' d) = (v, d)
+after_as_is {b} {z} bad (escape n w is e d) = no_slash b z bad is
 
-pub goes_plain : (whole z v : Bytes) (b : ℕ) → (b ≡ 92 → ⊥) → Goes whole (b ∷ z) v
+pub goes_as_is : (whole z v : Bytes) (b : ℕ) → (b ≡ 92 → ⊥) → Goes whole (b ∷ z) v
     → Goes whole z (v ++ b ∷ [])
-goes_plain whole z v b bad g = record {
+goes_as_is whole z v b bad g = record {
   forward = λ w d. subst (Decodes whole) (sym (append_assoc v (b ∷ []) w))
-      (g.forward (b ∷ w) (plain b bad d));
-  back = λ u d. after_plain bad (g.back u d).1;
+      (g.forward (b ∷ w) (as_is b bad d));
+  back = λ u d. after_as_is bad (g.back u d).1;
 }
 
 after_escape : {z u w : Bytes} {n : ℕ} → slice_index z 0 ≡ 92 → IsEscape z n w → Decodes z u
     → (v : Bytes) × Decodes (drop n z) v
 after_escape is e done = absurd (omega arith)
-after_escape is e (plain {z = z} b bad d) = no_slash b z bad is
+after_escape is e (as_is {z = z} b bad d) = no_slash b z bad is
 after_escape {z} is e (escape {v = v} m x is' f d) =
     let same = one_escape f e in (v, subst (λ k. Decodes (drop k z) v) same.0 d)
 
@@ -60,7 +60,7 @@ goes_whole whole v g = subst (Decodes whole) (append-nil v) (g.forward [] done)
 
 no_escape : {z u : Bytes} → slice_index z 0 ≡ 92 → HasNoEscape z → Decodes z u → ⊥
 no_escape is bad done = omega arith
-no_escape is bad (plain {z = z} b other d) = other is
+no_escape is bad (as_is {z = z} b other d) = other is
 no_escape is bad (escape n w is' e d) = bad n w e
 
 pub goes_wrong : (whole z v : Bytes) → slice_index z 0 ≡ 92 → HasNoEscape z → Goes whole z v
@@ -72,7 +72,7 @@ goes_wrong whole z v is bad g u d = no_escape is bad (g.back u d).1
 goes_byte : (whole z v : Bytes) → 0 < length z → (slice_index z 0 ≡ 92 → ⊥) → Goes whole z v
     → Goes whole (drop 1 z) (v ++ slice_index z 0 ∷ [])
 goes_byte whole [] v some bad g = absurd (omega arith)
-goes_byte whole (b ∷ z) v some bad g = goes_plain whole z v b bad g
+goes_byte whole (b ∷ z) v some bad g = goes_as_is whole z v b bad g
 
 pub goes_part : (whole z v w : Bytes) (n : ℕ) → IsPart z n w → Goes whole z v
     → Goes whole (drop n z) (v ++ w)
@@ -99,9 +99,9 @@ one_end (escape n w is e d) = absurd (omega arith)
 
 pub one_decoding : {z u v : Bytes} → Decodes z u → Decodes z v → u ≡ v
 one_decoding done b = one_end b
-one_decoding (plain b bad d) (plain c bad' e) = ap (λ v. b ∷ v) (one_decoding d e)
-one_decoding (plain {z = z} b bad d) (escape n w is e f) = no_slash b z bad is
-one_decoding (escape n w is e f) (plain {z = z} b bad d) = no_slash b z bad is
+one_decoding (as_is b bad d) (as_is c bad' e) = ap (λ v. b ∷ v) (one_decoding d e)
+one_decoding (as_is {z = z} b bad d) (escape n w is e f) = no_slash b z bad is
+one_decoding (escape n w is e f) (as_is {z = z} b bad d) = no_slash b z bad is
 one_decoding (escape n w is e f) done = absurd (omega arith)
 one_decoding {z} (escape {v = u} m w is e f) (escape {v = v} n x is' e' f') =
     let same = one_escape e' e in
@@ -156,12 +156,12 @@ no_backslash : (b : ℕ) → is_no_backslash b ≡ true → b ≡ 92 → ⊥
 no_backslash b h e = false≢true (subst (λ x. is_no_backslash x ≡ true) e h)
 
 -- a piece without backslashes stands for itself
-pub plain_decodes : (z : Bytes) → list_all is_no_backslash z ≡ true → Decodes z z
-plain_decodes [] h = done
-plain_decodes (b ∷ z) h =
+pub as_is_decodes : (z : Bytes) → list_all is_no_backslash z ≡ true → Decodes z z
+as_is_decodes [] h = done
+as_is_decodes (b ∷ z) h =
     let p = and_parts (is_no_backslash b) (list_all is_no_backslash z) h in
-    plain b (no_backslash b p.0) (plain_decodes z p.1)
+    as_is b (no_backslash b p.0) (as_is_decodes z p.1)
 
 -- a piece alone
-pub plain_alone : (z : Bytes) → list_all is_no_backslash z ≡ true → DecodesAll (z ∷ []) z
-plain_alone z h = push_all [] z [] z none (plain_decodes z h)
+pub as_is_alone : (z : Bytes) → list_all is_no_backslash z ≡ true → DecodesAll (z ∷ []) z
+as_is_alone z h = push_all [] z [] z none (as_is_decodes z h)

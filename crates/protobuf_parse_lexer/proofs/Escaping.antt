@@ -9,7 +9,7 @@ use Rattle.std.proofs.lemmas.List.Elements.{All-head, All-tail}
 use Rattle.std.proofs.lemmas.Str.{digit_value_digit}
 use Rattle.protobuf_parse_lexer.specs.Text.{Bytes, is_in, AllIn}
 use Rattle.protobuf_parse_lexer.specs.Scan.{closing}
-use Rattle.protobuf_parse_lexer.specs.Tokens.{IsEscape, letter, octal, Decodes, done, plain}
+use Rattle.protobuf_parse_lexer.specs.Tokens.{IsEscape, letter, octal, Decodes, done, as_is}
 use Rattle.protobuf_parse_lexer.specs.Tokens.{escape}
 use Rattle.protobuf_parse_base.specs.Escapes.{escaped_byte, escaped_bytes}
 use Rattle.protobuf_parse_lexer.specs.Laws.{EscapedBytesDecode}
@@ -179,7 +179,7 @@ octal_escape b more small =
 decode_one : (b : ℕ) (w more v : List ℕ) → Written b w → Decodes more v
     → Decodes (w ++ more) (b ∷ v)
 decode_one b w more v (short c f n e) d = escape 2 (b ∷ []) refl (e more) d
-decode_one b w more v (itself large no_quote no_slash) d = plain b no_slash d
+decode_one b w more v (itself large no_quote no_slash) d = as_is b no_slash d
 decode_one b w more v (digits small) d = escape 4 (b ∷ []) refl (octal_escape b more small) d
 
 decodes : (bytes : List ℕ) → All (λ b. b < 256) bytes → Decodes (escaped_bytes bytes) bytes

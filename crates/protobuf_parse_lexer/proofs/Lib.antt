@@ -5,7 +5,7 @@ pub mod Refusals
 pub mod Depth
 pub mod Escapes
 pub mod Places
-pub mod Plain
+pub mod Narrow
 pub mod Quotes
 pub mod Escaping
 pub mod Lanes

@@ -243,10 +243,10 @@ no_quote b h =
 symbol_sort : (z : Bytes) → 0 < length z → is_symbol (get_or z 0 0) ≡ true → NoFront IsLiteral z
     → HasNoComment z → sort z ≡ symbol
 unfolding sort
-symbol_sort z some h none plain =
+symbol_sort z some h none no_mark =
     let e = not_empty z some in
     let t = symbol_tests (get_or z 0 0) h in
-    let c = no_comment z plain in
+    let c = no_comment z no_mark in
     let d = no_number z some none in
     let w = no_ident z some none in
     by_symbol (is_empty z) (is_in class.Blank (get_or z 0 0))

@@ -1,7 +1,7 @@
 -- How a parser tells tokens from one another by the next token alone.
 use Rattle.std.specs.Prelude.{ℕ, List, [], ◌∷◌, Bool, true, false, not, ◌&&◌, ◌||◌, eqb}
 use Rattle.std.specs.Prelude.{bytes_eq, codes}
-use Rattle.protobuf_parse_base.specs.Relations.{seen}
+use Rattle.protobuf_parse_grammar.specs.Relations.{seen}
 use Rattle.protobuf_parse_lexer.specs.Text.{Bytes}
 use Rattle.protobuf_parse_lexer.specs.Tokens.{Lexeme}
 use Rattle.protobuf_parse_lexer.specs.declared.lexer.token.TokenKind.{TokenKind}

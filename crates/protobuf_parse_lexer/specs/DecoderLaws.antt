@@ -14,14 +14,14 @@ use Rattle.std.proofs.lemmas.Str.{IsUtf8-from_is_utf8, is_utf8-from_IsUtf8}
 use Rattle.std.specs.Str.{IsUtf8, is_utf8}
 use Rattle.std.specs.Str.Parse.{digits_value}
 use Rattle.protobuf_parse_base.specs.Characters as char
-use Rattle.protobuf_parse_base.specs.Readers.{and_left, and_right, false_by}
+use Rattle.protobuf_parse_grammar.specs.Readers.{and_left, and_right, false_by}
 use Rattle.protobuf_parse_lexer.specs.PieceParts.{NamesByte, NamesNoByte, NamesChar, NamesNoChar}
 use Rattle.protobuf_parse_lexer.specs.PieceParts.{HasEscape, HasNoEscape, IsPart, HasPart}
 use Rattle.protobuf_parse_lexer.specs.PieceParts.{HasNoPart}
 use Rattle.protobuf_parse_lexer.specs.Decoding.{meaning_bytes}
 use Rattle.protobuf_parse_lexer.specs.Text.{Bytes, is_in, AllIn, RunStopsAt}
 use Rattle.protobuf_parse_lexer.specs.Tokens.{letter_byte, IsDigits, IsEscape, letter, Decodes}
-use Rattle.protobuf_parse_lexer.specs.Tokens.{done, plain, escape, DecodesAll, none, piece}
+use Rattle.protobuf_parse_lexer.specs.Tokens.{done, as_is, escape, DecodesAll, none, piece}
 use Rattle.protobuf_parse_lexer.specs.Tokens.{StandsFor}
 use Rattle.protobuf_parse_lexer.specs.declared.lexer.bytes.ByteClass.{ByteClass}
 use Rattle.protobuf_parse_lexer.specs.declared.lexer.bytes.ByteClass.TheVariants as class
@@ -312,7 +312,7 @@ part-decodes b n z w v p d = go p.is d
         ⊎ ((b ≡ char.backslash → ⊥) × (n ≡ 1) × (w ≡ b ∷ []))
         → Decodes (drop n (b ∷ z)) v → Decodes (b ∷ z) (w ++ v)
     go (inl h) d = escape n w h.0 h.1 d
-    go (inr h) d = rw h.2 (plain b h.0 (rw h.1 at d))
+    go (inr h) d = rw h.2 (as_is b h.0 (rw h.1 at d))
 
 upto-to : (k : ℕ) (z v : Bytes) → decode_upto k z ≡ Some v → Decodes z v
 upto-to zero [] v e = let p : [] ≡ v = cc in subst (Decodes []) p done
@@ -348,10 +348,10 @@ found-escape b n z w (Some p) fits is e rest = go fits.is
     go (inl h) = let same = one_escape h.1 e in rw (same.0, same.1) refl
     go (inr h) = absurd (h.0 is)
 
-plain_more : (k b : ℕ) (z v : Bytes) → (b ≡ char.backslash → ⊥) → decode_upto k z ≡ Some v
+as_is_more : (k b : ℕ) (z v : Bytes) → (b ≡ char.backslash → ⊥) → decode_upto k z ≡ Some v
     → decode_upto (suc k) (b ∷ z) ≡ Some (b ∷ v)
 unfolding front_part
-plain_more k b z v other e =
+as_is_more k b z v other e =
     let n : (b == char.backslash)
     ≡ false = false_by (b == char.backslash) (λ t. other (eqb-true b char.backslash t)) in
     rw (n, e) refl
@@ -359,10 +359,10 @@ plain_more k b z v other e =
 upto-from : (k : ℕ) {z v : Bytes} → Decodes z v → length z ≤ k → decode_upto k z ≡ Some v
 upto-from zero done h = refl
 upto-from (suc k) done h = refl
-upto-from zero (plain b other d) h = absurd (omega (arith, h))
-upto-from (suc k) (plain {z = z} {v = v} b other d) h =
+upto-from zero (as_is b other d) h = absurd (omega (arith, h))
+upto-from (suc k) (as_is {z = z} {v = v} b other d) h =
     let e : decode_upto k z ≡ Some v = upto-from k d (omega (arith, h)) in
-    plain_more k b z v other e
+    as_is_more k b z v other e
 upto-from k {z = []} (escape n w is e d) h = absurd (omega arith)
 upto-from zero {z = b ∷ z} (escape n w is e d) h = absurd (omega (arith, h))
 upto-from (suc k) {z = b ∷ z} (escape {v = v} n w is e d) h =

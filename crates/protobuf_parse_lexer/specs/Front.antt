@@ -482,9 +482,9 @@ module _ (z : Bytes) (whole point : ℕ) (each : AllIn class.Digit z 0 whole)
             (subst (λ k. IsExponent k z n) (at_letter n f x.letter) x)
       ]
 
-  plain_fraction : (point ≡ whole)
+  own_fraction : (point ≡ whole)
       ⊎ ((slice_index z whole ≡ 46) × (whole + 1 ≤ point) × AllIn class.Digit z (whole + 1) point)
-  plain_fraction = elim fraction.ends [ inl q ↦ inl q.0 | inr q ↦ inr (q.0, q.1, q.2) ]
+  own_fraction = elim fraction.ends [ inl q ↦ inl q.0 | inr q ↦ inr (q.0, q.1, q.2) ]
 
   after_letter : (n : ℕ) → IsExponent point z n → point < n
   after_letter n x =
@@ -497,7 +497,7 @@ module _ (z : Bytes) (whole point : ℕ) (each : AllIn class.Digit z 0 whole)
       whole = whole;
       point = point;
       digits = each;
-      fraction = plain_fraction;
+      fraction = own_fraction;
       exponent =
           inr x.0;
       some = some;
@@ -508,14 +508,15 @@ module _ (z : Bytes) (whole point : ℕ) (each : AllIn class.Digit z 0 whole)
     λ m f. elim (float_cases m f) [ inl h ↦ omega (arith, after_letter n x.0) | inr y ↦ x.1 m y ],
   )
 
-  pub plain_float : (0 < whole) ⊎ (whole + 1 < point) → NoFront (IsExponent point) z → whole < point
+  pub fraction_float : (0 < whole) ⊎ (whole + 1 < point) → NoFront (IsExponent point) z
+      → whole < point
       → Longest IsFloat z point
-  plain_float some none more = (
+  fraction_float some none more = (
     record {
       whole = whole;
       point = point;
       digits = each;
-      fraction = plain_fraction;
+      fraction = own_fraction;
       exponent =
           inl refl;
       some = some;

@@ -51,13 +51,13 @@ abbrev pub first_set : ℕ → ℕ → ℕ
 first_set mask n = if mask == 0 then n else trailing_zeros w64 mask
 
 -- a symbol whatever stands behind it: one with which no string, number or comment begins
-abbrev pub is_plain_symbol : ℕ → Bool
-is_plain_symbol b =
+abbrev pub is_lone_symbol : ℕ → Bool
+is_lone_symbol b =
     (nat_le char.colon b && nat_le b char.tilde) || (nat_le char.open_paren b && nat_le b char.minus)
 
 -- a point that begins no number
-abbrev pub is_plain_point : Bytes → Bool
-is_plain_point z = slice_index z 0 == char.dot && not (is_in class.Digit (slice_index z 1))
+abbrev pub is_lone_point : Bytes → Bool
+is_lone_point z = slice_index z 0 == char.dot && not (is_in class.Digit (slice_index z 1))
 
 abbrev pub is_no_backslash : ℕ → Bool
 is_no_backslash b = not (b == char.backslash)
@@ -71,14 +71,14 @@ abbrev pub IsPlaceBefore : Bytes → Place → Place → Type 0
 IsPlaceBefore rest p q = (q ≡ p) ⊎ ((slice_index rest 0 ≡ char.newline) × (q.line ≡ p.line))
 
 -- no line feed, and no byte of a longer character
-abbrev pub is_plain : ℕ → Bool
-is_plain b = nat_lt b 128 && not (b == char.newline)
+abbrev pub is_narrow : ℕ → Bool
+is_narrow b = nat_lt b 128 && not (b == char.newline)
 
--- a token's bytes, which are plain unless it is a string or a float
-abbrev pub IsPlain : TokenKind → Bytes → Type 0
-IsPlain kind.Str z = Unit {0}
-IsPlain kind.Float z = Unit {0}
-IsPlain _ z = AllPass is_plain z 0 (length z)
+-- a token's bytes, which are narrow unless it is a string or a float
+abbrev pub IsNarrow : TokenKind → Bytes → Type 0
+IsNarrow kind.Str z = Unit {0}
+IsNarrow kind.Float z = Unit {0}
+IsNarrow _ z = AllPass is_narrow z 0 (length z)
 
 -- the piece stands at the front of the text
 abbrev pub Stands : Bytes → Piece → Type 0

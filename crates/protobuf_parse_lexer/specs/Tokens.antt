@@ -128,7 +128,7 @@ pub data IsEscape : Bytes → ℕ → Bytes → Type 0 where
 -- the text between a string's quotes stands for these bytes
 pub data Decodes : Bytes → Bytes → Type 0 where
   done : Decodes [] []
-  plain : {z v : Bytes} (b : ℕ) → (b ≡ char.backslash → ⊥) → Decodes z v → Decodes (b ∷ z) (b ∷ v)
+  as_is : {z v : Bytes} (b : ℕ) → (b ≡ char.backslash → ⊥) → Decodes z v → Decodes (b ∷ z) (b ∷ v)
   escape :
       {z v : Bytes} (n : ℕ) (w : Bytes) → slice_index z 0 ≡ char.backslash → IsEscape z n w →
       Decodes (drop n z) v → Decodes z (w ++ v)

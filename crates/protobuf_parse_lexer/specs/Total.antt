@@ -23,7 +23,7 @@ use Rattle.protobuf_parse_lexer.specs.Front.{quote_is_no_ident, begins_no_quote,
 use Rattle.protobuf_parse_lexer.specs.Front.{number_from_integer, long_ident, long_string}
 use Rattle.protobuf_parse_lexer.specs.Front.{string_answer, long_hex, long_octal, long_decimal}
 use Rattle.protobuf_parse_lexer.specs.Front.{long_float, digit_begins, same_whole, below}
-use Rattle.protobuf_parse_lexer.specs.Front.{exponent_float, plain_float, no_float, no_long}
+use Rattle.protobuf_parse_lexer.specs.Front.{exponent_float, fraction_float, no_float, no_long}
 
 -- some piece stands there
 abbrev Front : Bytes → Type 0
@@ -199,9 +199,9 @@ from_signed z at m x sign =
       | inr b ↦ b.0
     ]
 
-from_plain : (z : Bytes) (at m : ℕ) (x : IsExponent at z m)
+from_own : (z : Bytes) (at m : ℕ) (x : IsExponent at z m)
     → (IsSign (slice_index z (at + 1)) → ⊥) → x.from ≡ at + 1
-from_plain z at m x plain = elim x.begins [ inl b ↦ b | inr b ↦ absurd (plain b.1) ]
+from_own z at m x none = elim x.begins [ inl b ↦ b | inr b ↦ absurd (none b.1) ]
 
 -- an exponent, of which the digits can only begin at `from`
 exponent_from : (z : Bytes) (at from : ℕ) → IsLetterE (slice_index z at)
@@ -239,8 +239,8 @@ exponent z at =
         | inl sign ↦
             exponent_from z at (at + 2) letter (inr (refl, sign))
             (λ m x. from_signed z at m x sign)
-        | inr plain ↦
-            exponent_from z at (at + 1) letter (inl refl) (λ m x. from_plain z at m x plain)
+        | inr other ↦
+            exponent_from z at (at + 1) letter (inl refl) (λ m x. from_own z at m x other)
       ]
       | inr other ↦ inr (λ m x. other x.letter)
     ]
@@ -269,7 +269,7 @@ module _ (z : Bytes) (whole point : ℕ) (each : AllIn class.Digit z 0 whole)
       elim (exponent z point) [
         | inl x ↦ inl (x.0, exponent_float z whole point each stops ends x.0 some x.1)
         | inr none ↦ elim (cases_lt whole point) [
-          | inl more ↦ inl (point, plain_float z whole point each stops ends some none more)
+          | inl more ↦ inl (point, fraction_float z whole point each stops ends some none more)
           | inr less ↦ inr (no_float z whole point each stops ends none less)
         ]
       ]
@@ -418,9 +418,9 @@ number_or_not z =
       | inr no_digit ↦ elim (same_or_not (slice_index z 0) 46) [
         | inl point ↦ elim (true_or_false (is_in class.Digit (slice_index z 1))) [
           | inl d ↦ inl (inr (point, d))
-          | inr plain ↦ inr
+          | inr other ↦ inr
               (λ begins. elim begins
-              [ inl d ↦ false≢true (sym no_digit ∙ d) | inr p ↦ false≢true (sym plain ∙ p.1) ])
+              [ inl d ↦ false≢true (sym no_digit ∙ d) | inr p ↦ false≢true (sym other ∙ p.1) ])
         ]
         | inr other ↦ inr
             (λ begins. elim begins
@@ -486,16 +486,16 @@ string z some quote =
     string_of z r quote (string_answer z r some quote refl)
 
 module _ (z : Bytes) (some : 0 < length z) (no_blank : is_in class.Blank (slice_index z 0) ≡ false)
-    (plain : HasNoComment z) where
+    (no_mark : HasNoComment z) where
   symbol : NoFront IsLiteral z → (IsQuote (slice_index z 0) → ⊥) → Front z
   symbol none no_quote =
       elim (true_or_false (is_symbol (slice_index z 0))) [
         | inl h ↦ (
           piece.Token 1 (kind.Symbol (slice_index z 0)),
-          (refl, some, refl, h, none, plain),
+          (refl, some, refl, h, none, no_mark),
         )
         | inr h ↦
-            (piece.Fault error.UnexpectedCharacter, (some, no_blank, plain, none, h, no_quote))
+            (piece.Fault error.UnexpectedCharacter, (some, no_blank, no_mark, none, h, no_quote))
       ]
 
   -- where no number begins

@@ -1,13 +1,10 @@
 //! What is wrong with a text that is no proto path.
-ghost use Rattle.std.specs.Prelude.{◌≡◌, IfOk};
+ghost use Rattle.std.specs.Prelude.{◌≡◌};
 ghost use Rattle.std.specs.List.{list_any};
-ghost use Rattle.std.specs.String.{string_bytes};
-ghost use Rattle.protobuf_parse_base.specs.Paths.{has_backslash, is_dot_dot, joined, kept_parts};
+ghost use Rattle.protobuf_parse_base.specs.Paths.{has_backslash, is_dot_dot};
 ghost use Rattle.protobuf_parse_base.specs.Paths.{first_fault, part_fault, path_fault, slash_parts};
 
 use super::error::PathError;
-use crate::joins::push_part;
-use std::alloc::{AllocError, Global};
 
 /// Why the text is no proto path, if it is none.
 pub(super) fn fault_of(text: &str) -> Option<PathError>
@@ -62,18 +59,4 @@ pub(super) fn leads_up(text: &str) -> bool
     ensures { result ≡ list_any is_dot_dot (slash_parts text.now) }
 {
     text.split('/').any(|part| part == "..")
-}
-
-/// The parts between slashes, but for the empty ones and `.`, with slashes between them. The one
-/// error is that memory is short.
-pub(super) fn join_kept(alloc: Global, text: &str) -> Result<String, AllocError>
-    ensures { IfOk result (λ kept. string_bytes kept ≡ joined (kept_parts text.now)) }
-{
-    let mut kept = String::with_capacity(alloc, text.len())?;
-    for part in text.split('/') {
-        if !part.is_empty() && part != "." {
-            push_part(&mut kept, '/', part)?;
-        }
-    }
-    Ok(kept)
 }

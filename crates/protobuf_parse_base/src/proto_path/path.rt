@@ -6,6 +6,7 @@ ghost use Rattle.protobuf_parse_base.specs.Paths.{IsProtoPath};
 
 use super::check;
 use super::error::PathError;
+use super::parts::{join_parts, kept_parts};
 use std::alloc::{AllocError, Global};
 use std::fmt;
 
@@ -102,7 +103,7 @@ impl ProtoPathBuf {
         if check::leads_up(text) {
             return Err(PathError::DotDot);
         }
-        let Ok(kept) = check::join_kept(alloc, text) else {
+        let Ok(kept) = without_idle_parts(alloc, text) else {
             return Err(PathError::Memory);
         };
         if kept.is_empty() {
@@ -119,6 +120,13 @@ impl ProtoPathBuf {
             text: self.text.as_str(),
         }
     }
+}
+
+/// The path without its empty parts and `.`.
+fn without_idle_parts(alloc: Global, path: &str) -> Result<String, AllocError>
+    ensures { IfOk result (λ kept. string_bytes kept ≡ joined (kept_parts path.now)) }
+{
+    join_parts(alloc, &kept_parts(alloc, path)?)
 }
 
 impl<'a> fmt::Display for ProtoPath<'a> {

@@ -138,16 +138,16 @@ pub fn front_piece(text: &[u8]) -> Piece
 /// Whether the byte at the front is a symbol whatever stands behind it: it is no quote, no point,
 /// with which a number may begin, and no slash, with which a comment may.
 #[inline(always)]
-pub fn is_plain_symbol(first: u8) -> bool
-    ensures { result ≡ scan.is_plain_symbol first }
+pub fn is_lone_symbol(first: u8) -> bool
+    ensures { result ≡ scan.is_lone_symbol first }
 {
     (b':' <= first && first <= b'~') || (b'(' <= first && first <= b'-')
 }
 
 /// Whether a point stands at the front that begins no number.
 #[inline(always)]
-pub fn is_plain_point(text: &[u8]) -> bool
-    ensures { result ≡ scan.is_plain_point text.now }
+pub fn is_lone_point(text: &[u8]) -> bool
+    ensures { result ≡ scan.is_lone_point text.now }
 {
     byte_at(text, 0) == b'.' && !is_in(ByteClass::Digit, byte_at(text, 1))
 }

@@ -2,7 +2,7 @@
 
 ghost use Rattle.std.specs.Prelude.{◌≡◌, ◌<◌, ◌+◌, ◌≤◌, false, length, slice_index};
 ghost use Rattle.protobuf_parse_lexer.specs.Scan as scan;
-ghost use Rattle.protobuf_parse_lexer.specs.Scan.{AllPass, IsRunIn, is_plain};
+ghost use Rattle.protobuf_parse_lexer.specs.Scan.{AllPass, IsRunIn, is_narrow};
 ghost use Rattle.protobuf_parse_lexer.specs.Text as text;
 
 use crate::lexer::bytes::{ByteClass, run_end};
@@ -95,29 +95,29 @@ pub fn line_run_end(bytes: &[u8], at: usize) -> usize
     run_end(ByteClass::Line, bytes, end)
 }
 
-/// How many of the next bytes, from the first, are plain.
+/// How many of the next bytes, from the first, are narrow.
 #[inline(always)]
-fn plain_run(bytes: &[u8], at: usize) -> usize
+fn narrow_run(bytes: &[u8], at: usize) -> usize
     requires { at + LANES ≤ length bytes.now }
-    ensures { IsRunIn is_plain bytes.now at LANES result }
+    ensures { IsRunIn is_narrow bytes.now at LANES result }
 {
     let next = u8x16::from_slice(&bytes[at..]);
     let stops = next.simd_ge(u8x16::splat(0x80)) | next.simd_eq(u8x16::splat(b'\n'));
     first_set(stops.to_bitmask(), LANES)
 }
 
-/// The end of the plain bytes from `at` on: no line feed, and no byte of a longer character.
+/// The end of the narrow bytes from `at` on: no line feed, and no byte of a longer character.
 #[inline]
-pub fn plain_run_end(bytes: &[u8], at: usize) -> usize
+pub fn narrow_run_end(bytes: &[u8], at: usize) -> usize
     requires { at ≤ length bytes.now }
     ensures after { at ≤ result }
     ensures within { result ≤ length bytes.now }
-    ensures passes { AllPass is_plain bytes.now at result }
-    ensures stops { result < length bytes.now → is_plain (slice_index bytes.now result) ≡ false }
+    ensures passes { AllPass is_narrow bytes.now at result }
+    ensures stops { result < length bytes.now → is_narrow (slice_index bytes.now result) ≡ false }
 {
     let mut end = at;
     'by_block: while bytes.len() - end >= LANES {
-        let run = plain_run(bytes, end);
+        let run = narrow_run(bytes, end);
         if run < LANES {
             return end + run;
         }

@@ -3,13 +3,13 @@
 ghost use Rattle.std.specs.Prelude.{◌≡◌, ℕ, ◌<◌, ◌≤◌, ◌+◌, ◌^◌, length, slice_index, take, true};
 ghost use Rattle.protobuf_parse_base.specs.Characters as char;
 ghost use Rattle.protobuf_parse_lexer.specs.Place.{after, step};
-ghost use Rattle.protobuf_parse_lexer.specs.Scan.{IsPlain, IsPlaceBefore, begins_line_comment};
+ghost use Rattle.protobuf_parse_lexer.specs.Scan.{IsNarrow, IsPlaceBefore, begins_line_comment};
 ghost use Rattle.protobuf_parse_lexer.specs.Text.{AllIn, RunStopsAt};
 ghost use Rattle.protobuf_parse_lexer.specs.Cut as cut;
 
 use crate::error::{ParserError, ParserErrorWithLocation};
 use crate::lexer::bytes::{ByteClass, byte_at, is_in};
-use crate::lexer::lanes::{LANES, plain_run_end};
+use crate::lexer::lanes::{LANES, narrow_run_end};
 use crate::lexer::token::{Place, TokenKind};
 
 /// The place after one byte more. The bytes 128 to 191 go on with a character that begins before
@@ -39,7 +39,7 @@ pub fn step(place: Place, byte: u8) -> Place
 
 /// The place after these bytes, which begin at `place` and are taken one by one.
 #[inline]
-#[tactic(auto, using(crate::proofs::Plain::after_next))]
+#[tactic(auto, using(crate::proofs::Narrow::after_next))]
 fn place_after_each(place: Place, bytes: &[u8]) -> Place
     requires line { place.line + length bytes.now < 2 ^ 32 }
     requires col { place.col + length bytes.now < 2 ^ 32 }
@@ -65,7 +65,7 @@ fn place_after_runs(place: Place, bytes: &[u8]) -> Place
     let mut now = place;
     let mut at = 0;
     while at < bytes.len() {
-        let end = plain_run_end(bytes, at);
+        let end = narrow_run_end(bytes, at);
         now.col += (end - at) as u32;
         at = end;
         if at < bytes.len() {
@@ -172,7 +172,7 @@ fn begins_line_comment(bytes: &[u8]) -> bool
 pub fn place_past(place: Place, kind: TokenKind, word: &[u8]) -> Place
     requires line { place.line + length word.now < 2 ^ 32 }
     requires col { place.col + length word.now < 2 ^ 32 }
-    requires plain { IsPlain kind word.now }
+    requires narrow { IsNarrow kind word.now }
     ensures value { result ≡ after place word.now }
     ensures line { result.line ≤ place.line + length word.now }
     ensures col { result.col ≤ place.col + length word.now }

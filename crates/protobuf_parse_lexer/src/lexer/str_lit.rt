@@ -220,7 +220,7 @@ fn has_no_backslash(piece: &[u8]) -> bool
 
 /// Whether no escape begins in a piece, as in most: a string of it alone stands for what is
 /// written.
-#[tactic(auto, using(crate::proofs::Escapes::plain_alone))]
+#[tactic(auto, using(crate::proofs::Escapes::as_is_alone))]
 pub fn stands_for_itself(piece: &str) -> bool
     ensures { result ≡ true → StandsFor (piece.now ∷ []) piece.now }
 {

@@ -11,7 +11,7 @@ ghost use Rattle.protobuf_parse_lexer.specs.Tokens as tokens;
 use crate::error::{ParserError, ParserErrorWithLocation};
 use crate::lexer::bytes::{ByteClass, byte_at, is_in};
 use crate::lexer::depth::MAX_DEPTH;
-use crate::lexer::front::{Piece, front_piece, ident_end, is_plain_point, is_plain_symbol};
+use crate::lexer::front::{Piece, front_piece, ident_end, is_lone_point, is_lone_symbol};
 use crate::lexer::number::short_number;
 use crate::lexer::place::{blanks, located, place_behind, place_past};
 use crate::lexer::token::{Place, TokenKind};
@@ -163,7 +163,7 @@ impl<'text> Tokenizer<'text> {
             if let Some((len, number)) = short_number(bytes) {
                 return self.take(place, front, len, TokenKind::Integer(number));
             }
-        } else if is_plain_symbol(first) || is_plain_point(bytes) {
+        } else if is_lone_symbol(first) || is_lone_point(bytes) {
             return self.take(place, front, 1, TokenKind::Symbol(char::from(first)));
         }
         self.cut_any()

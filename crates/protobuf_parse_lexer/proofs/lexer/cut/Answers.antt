@@ -7,8 +7,8 @@ use Rattle.protobuf_parse_lexer.specs.Cut.{Cuts, done}
 use Rattle.protobuf_parse_lexer.specs.Place.{after}
 use Rattle.protobuf_parse_lexer.proofs.Cuts.{blank_cut, token_cut, blank_step, token_step}
 use Rattle.protobuf_parse_lexer.proofs.Cuts.{push_step, end_step, refused}
-use Rattle.protobuf_parse_lexer.specs.Scan.{IsPlain}
-use Rattle.protobuf_parse_lexer.proofs.Plain.{token_plain}
+use Rattle.protobuf_parse_lexer.specs.Scan.{IsNarrow}
+use Rattle.protobuf_parse_lexer.proofs.Narrow.{token_narrow}
 use Rattle.protobuf_parse_lexer.proofs.lexer.cut.Goals as goal
 
 pub split_at-requires : goal.split_at-requires
@@ -22,13 +22,13 @@ split_at-requires-in-Token c =
     c.in-Token.ensures in
     token_cut c.loop-tokens.rest.now c.in-Token.len c.in-Token.kind c.loop-tokens.invariant.0 is
 
-pub place_past-place-requires-clause-plain : goal.place_past-place-requires-clause-plain
-place_past-place-requires-clause-plain c =
+pub place_past-place-requires-clause-narrow : goal.place_past-place-requires-clause-narrow
+place_past-place-requires-clause-narrow c =
     let z = c.loop-tokens.rest.now in
     let n = c.in-Token.len in
     let is = subst (λ x. IsToken x n c.in-Token.kind) c.as_bytes.ensures.value c.in-Token.ensures in
     let front = c.as_bytes-in-Token.ensures.value ∙ c.split_at-in-Token.ensures.front in
-    subst (IsPlain c.in-Token.kind) (sym front) (token_plain z n c.in-Token.kind is)
+    subst (IsNarrow c.in-Token.kind) (sym front) (token_narrow z n c.in-Token.kind is)
 
 pub returns-in-End : goal.returns-in-End
 returns-in-End c =

@@ -1,5 +1,5 @@
 use Rattle.std.proofs.Common.{arith, inl, inr}
-use Rattle.protobuf_parse_lexer.specs.Front.{exponent_float, plain_float, no_float}
+use Rattle.protobuf_parse_lexer.specs.Front.{exponent_float, fraction_float, no_float}
 use Rattle.protobuf_parse_lexer.proofs.lexer.number.float_end.Goals as goal
 use Rattle.protobuf_parse_lexer.proofs.lexer.number.float_end.Goals.{else-whole-eq0-via-then-whole-eq0+else-point-le1}
 use Rattle.protobuf_parse_lexer.proofs.lexer.number.float_end.Goals.{else-whole-eq0-via-else-whole-eq0}
@@ -17,7 +17,7 @@ returns-in-Some c =
 
 pub returns-in-None : goal.returns-in-None
 returns-in-None c =
-    plain_float c.args.text.now c.args.whole c.fraction_end-point.result c.requires.digits
+    fraction_float c.args.text.now c.args.whole c.fraction_end-point.result c.requires.digits
     c.requires.stops c.fraction_end-point.ensures
     (elim c.else-whole-eq0.branch [
       | else-whole-eq0-via-then-whole-eq0+else-point-le1 w ↦ inr

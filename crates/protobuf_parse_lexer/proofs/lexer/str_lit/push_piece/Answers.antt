@@ -2,14 +2,14 @@ use Rattle.std.proofs.Common.{◌++◌, length, refl, sym, ap, ◌∙◌, subst,
 use Rattle.std.proofs.lemmas.Bool.{eqb-true}
 use Rattle.std.proofs.lemmas.Slice.{between_to_end}
 use Rattle.protobuf_parse_lexer.proofs.Escapes.{Goes, goes_wrong, goes_part, goes_end}
-use Rattle.protobuf_parse_lexer.proofs.Escapes.{plain_decodes}
+use Rattle.protobuf_parse_lexer.proofs.Escapes.{as_is_decodes}
 use Rattle.protobuf_parse_lexer.specs.Decoding.{meaning_bytes}
 use Rattle.protobuf_parse_lexer.proofs.lexer.str_lit.push_piece.Goals as goal
 
 pub returns-then-has_no_backslash : goal.returns-then-has_no_backslash
 returns-then-has_no_backslash c = (
   c.args.piece.now,
-  plain_decodes c.args.piece.now (sym c.has_no_backslash.ensures ∙ c.if-has_no_backslash.true),
+  as_is_decodes c.args.piece.now (sym c.has_no_backslash.ensures ∙ c.if-has_no_backslash.true),
   c.in_ok-extend_from_slice.ensures.items,
 )
 

@@ -1,9 +1,9 @@
 use Rattle.std.proofs.Common.{sym, ◌∙◌, subst, ap}
 use Rattle.protobuf_parse_lexer.specs.Place.{after}
-use Rattle.protobuf_parse_lexer.specs.Scan.{IsPlain}
+use Rattle.protobuf_parse_lexer.specs.Scan.{IsNarrow}
 use Rattle.protobuf_parse_lexer.proofs.Ahead.{token_step, deep_step}
 use Rattle.protobuf_parse_lexer.proofs.Cuts.{token_cut}
-use Rattle.protobuf_parse_lexer.proofs.Plain.{token_plain}
+use Rattle.protobuf_parse_lexer.proofs.Narrow.{token_narrow}
 use Rattle.protobuf_parse_lexer.proofs.lexer.tokenizer.Tokenizer.take.Goals as goal
 
 pub returns-in_default : goal.returns-in_default
@@ -16,10 +16,10 @@ pub split_at-requires : goal.split_at-requires
 split_at-requires c =
     token_cut c.args.front.now c.args.len c.args.kind c.utf8.front c.requires.token
 
-pub place_past-self-requires-clause-plain : goal.place_past-self-requires-clause-plain
-place_past-self-requires-clause-plain c =
-    subst (IsPlain c.args.kind) (sym (c.as_bytes.ensures.value ∙ c.split_at.ensures.front))
-    (token_plain c.args.front.now c.args.len c.args.kind c.requires.token)
+pub place_past-self-requires-clause-narrow : goal.place_past-self-requires-clause-narrow
+place_past-self-requires-clause-narrow c =
+    subst (IsNarrow c.args.kind) (sym (c.as_bytes.ensures.value ∙ c.split_at.ensures.front))
+    (token_narrow c.args.front.now c.args.len c.args.kind c.requires.token)
 
 pub returns : goal.returns
 returns c =

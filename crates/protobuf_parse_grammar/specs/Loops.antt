@@ -4,10 +4,10 @@
 use Rattle.std.proofs.Common.{◌≡◌, List, [], ◌∷◌, ◌++◌, Option, Some, None, true, false, refl, sym}
 use Rattle.std.proofs.Common.{ap, ◌∙◌, append_assoc}
 use Rattle.std.proofs.lemmas.List.{append-nil}
-use Rattle.protobuf_parse_base.specs.Relations.{somes}
-use Rattle.protobuf_parse_base.specs.Readers.{Rest, Read, read, stuck, wrong, deep, bind, Lexicon}
-use Rattle.protobuf_parse_base.specs.Readers.{Shape, Reader, starts}
-use Rattle.protobuf_parse_base.specs.Combinators.{run_many, many-law}
+use Rattle.protobuf_parse_grammar.specs.Relations.{somes}
+use Rattle.protobuf_parse_grammar.specs.Readers.{Rest, Read, read, stuck, wrong, deep, bind, Lexicon}
+use Rattle.protobuf_parse_grammar.specs.Readers.{Shape, Reader, starts}
+use Rattle.protobuf_parse_grammar.specs.Combinators.{run_many, many-law}
 
 -- with what the items show behind what is there
 abbrev pub with_rest : {Tok Mark A B C : Type 0} → (List A → List B) → (List B → C) → List B

@@ -3,17 +3,17 @@
 use Rattle.std.proofs.Common.{◌≡◌, ℕ, zero, suc, ◌<◌, ◌≤◌, List, [], ◌∷◌, ◌++◌, Option, Some, None}
 use Rattle.std.proofs.Common.{Bool, true, false, not, ◌&&◌, ◌||◌, Result, Ok, Err, cond, refl, sym}
 use Rattle.std.proofs.Common.{ap, subst, ◌∙◌, inl, inr, arith}
-use Rattle.protobuf_parse_base.specs.Relations.{Nothing, One, Then, Either, Many, none, more}
-use Rattle.protobuf_parse_base.specs.Readers.{Rest, onto, onto-append, size, next, Read, bind}
-use Rattle.protobuf_parse_base.specs.Readers.{bind_read, bind_deep, stuck_not_read, read_parts}
-use Rattle.protobuf_parse_base.specs.Readers.{Lexicon, Shape, shape, LocalRead, LocalAt, Sound}
-use Rattle.protobuf_parse_base.specs.Readers.{seen_by, starts, all_apart, all_within, Begins}
-use Rattle.protobuf_parse_base.specs.Readers.{Reader, and_left, and_right, or_left, or_right}
-use Rattle.protobuf_parse_base.specs.Readers.{or_true, not_true, next-onto, seen_by-append}
-use Rattle.protobuf_parse_base.specs.Readers.{starts-onto, starts-next, all_apart-law}
-use Rattle.protobuf_parse_base.specs.Readers.{all_within-law, first-of, last-of, starts-within}
-use Rattle.protobuf_parse_base.specs.Readers.{begins-apart, begins-starts, local-same, end, token}
-use Rattle.protobuf_parse_base.specs.Readers.{read, stuck, wrong, deep}
+use Rattle.protobuf_parse_grammar.specs.Relations.{Nothing, One, Then, Either, Many, none, more}
+use Rattle.protobuf_parse_grammar.specs.Readers.{Rest, onto, onto-append, size, next, Read, bind}
+use Rattle.protobuf_parse_grammar.specs.Readers.{bind_read, bind_deep, stuck_not_read, read_parts}
+use Rattle.protobuf_parse_grammar.specs.Readers.{Lexicon, Shape, shape, LocalRead, LocalAt, Sound}
+use Rattle.protobuf_parse_grammar.specs.Readers.{seen_by, starts, all_apart, all_within, Begins}
+use Rattle.protobuf_parse_grammar.specs.Readers.{Reader, and_left, and_right, or_left, or_right}
+use Rattle.protobuf_parse_grammar.specs.Readers.{or_true, not_true, next-onto, seen_by-append}
+use Rattle.protobuf_parse_grammar.specs.Readers.{starts-onto, starts-next, all_apart-law}
+use Rattle.protobuf_parse_grammar.specs.Readers.{all_within-law, first-of, last-of, starts-within}
+use Rattle.protobuf_parse_grammar.specs.Readers.{begins-apart, begins-starts, local-same, end, token}
+use Rattle.protobuf_parse_grammar.specs.Readers.{read, stuck, wrong, deep}
 
 -- ---- nothing, and one token
 

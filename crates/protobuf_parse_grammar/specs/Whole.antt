@@ -6,12 +6,12 @@ use Rattle.std.proofs.Common.{true, false, Result, Ok, refl, sym, ap, subst, ◌
 use Rattle.std.proofs.Common.{inr, ◌⊎◌, arith, add-zero, zero-add}
 use Rattle.std.proofs.Math.Nat.{add-suc}
 use Rattle.std.proofs.lemmas.List.{append_cancel_right}
-use Rattle.protobuf_parse_base.specs.Readers.{Rest, end, token, onto, onto-append, size, next, Read}
-use Rattle.protobuf_parse_base.specs.Readers.{read, stuck, wrong, deep, read_parts, Lexicon, Shape}
-use Rattle.protobuf_parse_base.specs.Readers.{Reader, LocalAt, LocalRead, LocalStuck, starts}
-use Rattle.protobuf_parse_base.specs.Conditions.{mark_of}
-use Rattle.protobuf_parse_base.specs.Depth.{Near, NearAt}
-use Rattle.protobuf_parse_base.specs.Relations.{AtSomeDepth, StopsAt, first_mark, head}
+use Rattle.protobuf_parse_grammar.specs.Readers.{Rest, end, token, onto, onto-append, size, next, Read}
+use Rattle.protobuf_parse_grammar.specs.Readers.{read, stuck, wrong, deep, read_parts, Lexicon, Shape}
+use Rattle.protobuf_parse_grammar.specs.Readers.{Reader, LocalAt, LocalRead, LocalStuck, starts}
+use Rattle.protobuf_parse_grammar.specs.Conditions.{mark_of}
+use Rattle.protobuf_parse_grammar.specs.Depth.{Near, NearAt}
+use Rattle.protobuf_parse_grammar.specs.Relations.{AtSomeDepth, StopsAt, first_mark, head}
 
 -- a list as what is left before the end
 abbrev pub whole : {Tok Mark : Type 0} → List Tok → Mark → Rest Tok Mark

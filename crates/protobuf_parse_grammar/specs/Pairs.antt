@@ -3,21 +3,21 @@
 -- one depth and of what they are at the next, with what one level more changes.
 use Rattle.std.proofs.Common.{◌≡◌, ℕ, zero, suc, ◌≤◌, List, [], ◌∷◌, Option, Some, None, Bool, true}
 use Rattle.std.proofs.Common.{false, refl, inl, inr, arith}
-use Rattle.protobuf_parse_base.specs.Relations.{Rel, Nothing, Then, Either, Many}
-use Rattle.protobuf_parse_base.specs.Restrictions.{Optional}
-use Rattle.protobuf_parse_base.specs.Relations.{Separated, Unless, At, Level}
-use Rattle.protobuf_parse_base.specs.Restrictions.{Only, Meant}
-use Rattle.protobuf_parse_base.specs.Combinators as reader
-use Rattle.protobuf_parse_base.specs.Readers as read
-use Rattle.protobuf_parse_base.specs.Readers.{Rest, Read, deep, Lexicon, Shape, shape, Reader, size}
-use Rattle.protobuf_parse_base.specs.Readers.{seen_by}
-use Rattle.protobuf_parse_base.specs.Combinators.{then_shape, either_shape, many_shape, covers}
-use Rattle.protobuf_parse_base.specs.Conditions as part
-use Rattle.protobuf_parse_base.specs.Conditions.{optional_shape, separated_shape, unless_shape}
-use Rattle.protobuf_parse_base.specs.Conditions.{both_empty, first_empty}
-use Rattle.protobuf_parse_base.specs.Depth.{Near, NearAt, near_same, near_less, near-then}
-use Rattle.protobuf_parse_base.specs.Depth.{near-deeper, near-choose, near-many, near-at}
-use Rattle.protobuf_parse_base.specs.Depth.{near-unless, near-only, near-meant, none_so_deep}
+use Rattle.protobuf_parse_grammar.specs.Relations.{Rel, Nothing, Then, Either, Many}
+use Rattle.protobuf_parse_grammar.specs.Restrictions.{Optional}
+use Rattle.protobuf_parse_grammar.specs.Relations.{Separated, Unless, At, Level}
+use Rattle.protobuf_parse_grammar.specs.Restrictions.{Only, Meant}
+use Rattle.protobuf_parse_grammar.specs.Combinators as reader
+use Rattle.protobuf_parse_grammar.specs.Readers as read
+use Rattle.protobuf_parse_grammar.specs.Readers.{Rest, Read, deep, Lexicon, Shape, shape, Reader, size}
+use Rattle.protobuf_parse_grammar.specs.Readers.{seen_by}
+use Rattle.protobuf_parse_grammar.specs.Combinators.{then_shape, either_shape, many_shape, covers}
+use Rattle.protobuf_parse_grammar.specs.Conditions as part
+use Rattle.protobuf_parse_grammar.specs.Conditions.{optional_shape, separated_shape, unless_shape}
+use Rattle.protobuf_parse_grammar.specs.Conditions.{both_empty, first_empty}
+use Rattle.protobuf_parse_grammar.specs.Depth.{Near, NearAt, near_same, near_less, near-then}
+use Rattle.protobuf_parse_grammar.specs.Depth.{near-deeper, near-choose, near-many, near-at}
+use Rattle.protobuf_parse_grammar.specs.Depth.{near-unless, near-only, near-meant, none_so_deep}
 
 -- a reader at one depth and at the next, which agree on lists of fewer than k tokens
 pub record Pair {Tok Mark Class A : Type 0} (L : Lexicon Tok Mark Class)

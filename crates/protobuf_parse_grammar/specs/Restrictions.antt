@@ -1,7 +1,7 @@
 -- No public clause rests on this file.
 -- Relations of token lists that are restricted.
 use Rattle.std.specs.Prelude.{◌≡◌, Option, Some, None, Bool, true}
-use Rattle.protobuf_parse_base.specs.Relations.{Either, Nothing, Rel, ◌>>=◌}
+use Rattle.protobuf_parse_grammar.specs.Relations.{Either, Nothing, Rel, ◌>>=◌}
 
 -- such a part, or nothing
 abbrev pub Optional : {Tok A : Type 0} → Rel Tok A → Rel Tok (Option A)

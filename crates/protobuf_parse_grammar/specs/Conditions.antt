@@ -2,19 +2,19 @@
 -- Readers of parts that stand under a condition, and of parts joined from them.
 use Rattle.std.proofs.Common.{◌≡◌, List, [], ◌∷◌, ◌++◌, Option, Some, None, Bool, true, false, ◌&&◌}
 use Rattle.std.proofs.Common.{◌||◌, cond, refl, sym, ap, ◌∙◌}
-use Rattle.protobuf_parse_base.specs.Relations.{OneOrMore, Separated, Unless}
-use Rattle.protobuf_parse_base.specs.Restrictions.{Optional, Meant, Only}
-use Rattle.protobuf_parse_base.specs.Relations.{BeginsOtherwise, At}
-use Rattle.protobuf_parse_base.specs.Readers.{Rest, end, token, onto, next, Read, read, stuck}
-use Rattle.protobuf_parse_base.specs.Readers.{wrong, deep, bind, bind_read, bind_deep, read_parts}
-use Rattle.protobuf_parse_base.specs.Readers.{stuck_not_read, Lexicon, Shape, shape, LocalAt}
-use Rattle.protobuf_parse_base.specs.Readers.{LocalRead, Sound, seen_by, starts, starts-next}
-use Rattle.protobuf_parse_base.specs.Readers.{starts-onto, Begins, Reader, local-same}
-use Rattle.protobuf_parse_base.specs.Combinators.{give, ◌>>=◌}
-use Rattle.protobuf_parse_base.specs.Combinators.{◌>>◌, then_shape, either_shape, choose, many}
-use Rattle.protobuf_parse_base.specs.Readers.{seen_by-append}
-use Rattle.protobuf_parse_base.specs.Combinators.{many_shape, pick, pick-local-at}
-use Rattle.protobuf_parse_base.specs.Readers.{or_true}
+use Rattle.protobuf_parse_grammar.specs.Relations.{OneOrMore, Separated, Unless}
+use Rattle.protobuf_parse_grammar.specs.Restrictions.{Optional, Meant, Only}
+use Rattle.protobuf_parse_grammar.specs.Relations.{BeginsOtherwise, At}
+use Rattle.protobuf_parse_grammar.specs.Readers.{Rest, end, token, onto, next, Read, read, stuck}
+use Rattle.protobuf_parse_grammar.specs.Readers.{wrong, deep, bind, bind_read, bind_deep, read_parts}
+use Rattle.protobuf_parse_grammar.specs.Readers.{stuck_not_read, Lexicon, Shape, shape, LocalAt}
+use Rattle.protobuf_parse_grammar.specs.Readers.{LocalRead, Sound, seen_by, starts, starts-next}
+use Rattle.protobuf_parse_grammar.specs.Readers.{starts-onto, Begins, Reader, local-same}
+use Rattle.protobuf_parse_grammar.specs.Combinators.{give, ◌>>=◌}
+use Rattle.protobuf_parse_grammar.specs.Combinators.{◌>>◌, then_shape, either_shape, choose, many}
+use Rattle.protobuf_parse_grammar.specs.Readers.{seen_by-append}
+use Rattle.protobuf_parse_grammar.specs.Combinators.{many_shape, pick, pick-local-at}
+use Rattle.protobuf_parse_grammar.specs.Readers.{or_true}
 
 stuck-local : {Tok Mark A : Type 0} (ts : Rest Tok Mark) → LocalAt {A = A} stuck ts (stuck ts)
 stuck-local ts =

@@ -3,15 +3,15 @@
 -- changes.
 use Rattle.std.proofs.Common.{◌≡◌, ℕ, zero, suc, ◌<◌, ◌≤◌, List, [], ◌∷◌, Option, Some, None, Bool}
 use Rattle.std.proofs.Common.{true, false, cond, refl, inl, inr, ◌⊎◌, arith}
-use Rattle.protobuf_parse_base.specs.Relations.{Never}
-use Rattle.protobuf_parse_base.specs.Readers.{Rest, onto, size, Read, read, stuck, wrong, deep}
-use Rattle.protobuf_parse_base.specs.Readers.{bind, Lexicon, Shape, Reader, Sound, starts}
-use Rattle.protobuf_parse_base.specs.Combinators.{run_then}
-use Rattle.protobuf_parse_base.specs.Combinators.{run_choose, run_many, many-law, many-sound}
-use Rattle.protobuf_parse_base.specs.Combinators.{shorter}
-use Rattle.protobuf_parse_base.specs.Combinators.{with_first, give-shallow}
-use Rattle.protobuf_parse_base.specs.Conditions.{run_at, run_meant, meaning, meaning-shallow}
-use Rattle.protobuf_parse_base.specs.Conditions.{mark_of, run_unless, run_only}
+use Rattle.protobuf_parse_grammar.specs.Relations.{Never}
+use Rattle.protobuf_parse_grammar.specs.Readers.{Rest, onto, size, Read, read, stuck, wrong, deep}
+use Rattle.protobuf_parse_grammar.specs.Readers.{bind, Lexicon, Shape, Reader, Sound, starts}
+use Rattle.protobuf_parse_grammar.specs.Combinators.{run_then}
+use Rattle.protobuf_parse_grammar.specs.Combinators.{run_choose, run_many, many-law, many-sound}
+use Rattle.protobuf_parse_grammar.specs.Combinators.{shorter}
+use Rattle.protobuf_parse_grammar.specs.Combinators.{with_first, give-shallow}
+use Rattle.protobuf_parse_grammar.specs.Conditions.{run_at, run_meant, meaning, meaning-shallow}
+use Rattle.protobuf_parse_grammar.specs.Conditions.{mark_of, run_unless, run_only}
 
 -- The second agrees with the first, but where the first met parts that nest too deep; and that it
 -- does only on lists of at least so many tokens.

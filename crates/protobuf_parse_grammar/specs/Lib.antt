@@ -1,0 +1,9 @@
+pub mod Relations
+pub mod Readers
+pub mod Combinators
+pub mod Conditions
+pub mod Depth
+pub mod Pairs
+pub mod Whole
+pub mod Loops
+pub mod Restrictions
