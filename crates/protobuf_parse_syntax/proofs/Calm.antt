@@ -2,16 +2,16 @@
 -- another.
 use Rattle.std.proofs.Common.{◌≡◌, ℕ, zero, suc, ◌<◌, Bool, true, false, List, [], ◌∷◌}
 use Rattle.std.proofs.Common.{◌++◌, cond, refl, sym, ap, subst, ◌∙◌, arith, length}
-use Rattle.protobuf_parse_base.specs.Relations.{Nothing, Then, Either, Many, Separated, Unless, At}
-use Rattle.protobuf_parse_base.specs.Readers.{Rest, Read, read, stuck, deep, bind, bind_deep}
-use Rattle.protobuf_parse_base.specs.Readers.{Shape, shape, Reader, size, starts, seen_by}
-use Rattle.protobuf_parse_base.specs.Combinators as reader
-use Rattle.protobuf_parse_base.specs.Combinators.{then_shape, either_shape, many_shape, covers}
-use Rattle.protobuf_parse_base.specs.Combinators.{run_many, many-law, shorter, with_first}
-use Rattle.protobuf_parse_base.specs.Conditions as condition
-use Rattle.protobuf_parse_base.specs.Conditions.{unless_shape, separated_shape, first_empty}
-use Rattle.protobuf_parse_base.specs.Conditions.{mark_of}
-use Rattle.protobuf_parse_base.specs.Whole.{whole, left_whole, size-whole}
+use Rattle.protobuf_parse_grammar.specs.Relations.{Nothing, Then, Either, Many, Separated, Unless, At}
+use Rattle.protobuf_parse_grammar.specs.Readers.{Rest, Read, read, stuck, deep, bind, bind_deep}
+use Rattle.protobuf_parse_grammar.specs.Readers.{Shape, shape, Reader, size, starts, seen_by}
+use Rattle.protobuf_parse_grammar.specs.Combinators as reader
+use Rattle.protobuf_parse_grammar.specs.Combinators.{then_shape, either_shape, many_shape, covers}
+use Rattle.protobuf_parse_grammar.specs.Combinators.{run_many, many-law, shorter, with_first}
+use Rattle.protobuf_parse_grammar.specs.Conditions as condition
+use Rattle.protobuf_parse_grammar.specs.Conditions.{unless_shape, separated_shape, first_empty}
+use Rattle.protobuf_parse_grammar.specs.Conditions.{mark_of}
+use Rattle.protobuf_parse_grammar.specs.Whole.{whole, left_whole, size-whole}
 use Rattle.protobuf_parse_lexer.specs.Tokens.{Lexeme}
 use Rattle.protobuf_parse_lexer.specs.Classes.{Class}
 use Rattle.protobuf_parse_lexer.specs.declared.lexer.token.Place.{Place}

@@ -1,12 +1,12 @@
 -- What the readers of constants read, where the next tokens are known.
 use Rattle.std.proofs.Common.{◌≡◌, ℕ, ℤ, pos, [], ◌∷◌, Option, Some, None, Bool, true, false}
 use Rattle.std.proofs.Common.{◌||◌, refl, inl, inr}
-use Rattle.protobuf_parse_base.specs.Readers.{Rest, end, token, Read, read, stuck, wrong, bind}
-use Rattle.protobuf_parse_base.specs.Readers.{starts, or_true, or_left}
-use Rattle.protobuf_parse_base.specs.Relations.{seen}
-use Rattle.protobuf_parse_base.specs.Combinators.{run_one, taken}
-use Rattle.protobuf_parse_base.specs.Readers.{all_apart-law}
-use Rattle.protobuf_parse_base.specs.Conditions.{meaning}
+use Rattle.protobuf_parse_grammar.specs.Readers.{Rest, end, token, Read, read, stuck, wrong, bind}
+use Rattle.protobuf_parse_grammar.specs.Readers.{starts, or_true, or_left}
+use Rattle.protobuf_parse_grammar.specs.Relations.{seen}
+use Rattle.protobuf_parse_grammar.specs.Combinators.{run_one, taken}
+use Rattle.protobuf_parse_grammar.specs.Readers.{all_apart-law}
+use Rattle.protobuf_parse_grammar.specs.Conditions.{meaning}
 use Rattle.protobuf_parse_lexer.specs.Tokens.{Lexeme}
 use Rattle.protobuf_parse_lexer.specs.Text.{Bytes}
 use Rattle.protobuf_parse_lexer.specs.Classes.{sees, symbol as symbol_class, integer, float, text}
@@ -22,7 +22,7 @@ use Rattle.protobuf_parse_syntax.specs.Productions.{symbol, signed_by, sign_and,
 use Rattle.protobuf_parse_syntax.specs.Productions.{or_floating, plus, minus, number-law, small-law}
 use Rattle.protobuf_parse_syntax.specs.Productions.{str}
 use Rattle.protobuf_parse_syntax.specs.Code.{off, comes, Fails, SignedFloat, floats_second}
-use Rattle.protobuf_parse_syntax.specs.declared.parser.refusal.Refusal.TheVariants.{Here}
+use Rattle.protobuf_parse_syntax.specs.declared.parser.refusal.Refusal.TheVariants.{Fault}
 
 -- ---- signs
 
@@ -100,15 +100,16 @@ module _ (c : ℕ) (says : Lexeme → Option ℕ) (f : ℕ → ℤ)
       → ((t : Lexeme) → sees (symbol_class c) t ≡ true
       → is_one_of (symbol_class 43 ∷ symbol_class 45 ∷ []) t ≡ true)
       → starts lexicon (symbol_class c ∷ []) ts ≡ true → floats_second ts ≡ true
-      → Fails (Here error.FloatConstant) ts ((signed_by c says f law).run ts)
-  sign_fails ts is h e = (off ts, sign_wrong ts h e, inr ([], refl, inl (refl, tells_at ts is h e)))
+      → Fails (Fault error.FloatConstant) ts ((signed_by c says f law).run ts)
+  sign_fails ts is h e =
+      inr (off ts, sign_wrong ts h e, inr ([], refl, inl (refl, tells_at ts is h e)))
 
 pub plus_absent : (ts : Rest Lexeme Place) → starts lexicon (symbol_class 43 ∷ []) ts ≡ false
     → plus.run ts ≡ stuck ts
 plus_absent = sign_absent 43 number pos number-law
 
 pub plus_fails : (ts : Rest Lexeme Place) → starts lexicon (symbol_class 43 ∷ []) ts ≡ true
-    → floats_second ts ≡ true → Fails (Here error.FloatConstant) ts (plus.run ts)
+    → floats_second ts ≡ true → Fails (Fault error.FloatConstant) ts (plus.run ts)
 plus_fails ts h e = sign_fails 43 number pos number-law ts (λ t i. rw i refl) h e
 
 pub plus_plain : (ts : Rest Lexeme Place) → floats_second ts ≡ false
@@ -124,7 +125,7 @@ pub minus_absent : (ts : Rest Lexeme Place) → starts lexicon (symbol_class 45 
 minus_absent = sign_absent 45 (small_number most) negative (small-law most)
 
 pub minus_fails : (ts : Rest Lexeme Place) → starts lexicon (symbol_class 45 ∷ []) ts ≡ true
-    → floats_second ts ≡ true → Fails (Here error.FloatConstant) ts (minus.run ts)
+    → floats_second ts ≡ true → Fails (Fault error.FloatConstant) ts (minus.run ts)
 minus_fails ts h e = sign_fails 45 (small_number most) negative (small-law most) ts
     (λ t i. or_true (sees (symbol_class 43) t) (sees (symbol_class 45) t || false) (rw i refl)) h e
 

@@ -3,8 +3,8 @@ use Rattle.std.proofs.Common.{◌≡◌, ℕ, suc, zero, ◌+◌, ◌≤◌, Boo
 use Rattle.std.proofs.Common.{Some, None, length, length-append, refl, ap, inl}
 use Rattle.std.proofs.Common.{inr, ◌⊎◌, arith, codes, sum_by}
 use Rattle.std.proofs.lemmas.List.Sums.{sum_by-cons}
-use Rattle.protobuf_parse_base.specs.Relations.{Nothing, Never, Level, One, Then, Either, Many}
-use Rattle.protobuf_parse_base.specs.Relations.{none, more, Unless, At, somes}
+use Rattle.protobuf_parse_grammar.specs.Relations.{Nothing, Never, Level, One, Then, Either, Many}
+use Rattle.protobuf_parse_grammar.specs.Relations.{none, more, Unless, At, somes}
 use Rattle.protobuf_parse_lexer.specs.Tokens.{Lexeme}
 use Rattle.protobuf_parse_lexer.specs.declared.lexer.token.Place.{Place}
 use Rattle.protobuf_parse_lexer.specs.Classes.{is_one_of, words}
@@ -12,7 +12,7 @@ use Rattle.protobuf_parse_syntax.specs.declared.tree.Syntax.{Syntax}
 use Rattle.protobuf_parse_syntax.specs.declared.tree.Syntax.TheVariants.{Proto2, Proto3}
 use Rattle.protobuf_parse_syntax.specs.declared.tree.field.Label.{Label}
 use Rattle.protobuf_parse_syntax.specs.Grammar.{table_words, statement_words, labels, Item}
-use Rattle.protobuf_parse_syntax.specs.Grammar.{Statements, Braced, IsOption, PlainFieldOf, GroupOf}
+use Rattle.protobuf_parse_syntax.specs.Grammar.{Statements, Braced, IsOption, NormalFieldOf, GroupOf}
 use Rattle.protobuf_parse_syntax.specs.Grammar.{AfterLabel, FieldOf, IsField, IsOneofField}
 use Rattle.protobuf_parse_syntax.specs.Grammar.{IsOneofStatement, IsOneof, IsExtend, IsReserved}
 use Rattle.protobuf_parse_syntax.specs.Grammar.{IsExtensions, IsEnumValue, IsEnumStatement, IsEnum}
@@ -145,11 +145,11 @@ option : {n : ℕ} (d : ℕ) → Costs n (IsOption d) (λ o. suc n)
 unfolding IsOption
 option d = at_place (λ t. do w ← one; skip)
 
-plain_field : {n : ℕ} (d : ℕ) (T : List Lexeme → TypeSyntax →
+normal_field : {n : ℕ} (d : ℕ) (T : List Lexeme → TypeSyntax →
     Type 0) (place : Place) (label : Option Label) →
-    Costs n (PlainFieldOf d T place label) field_count
-unfolding PlainFieldOf
-plain_field d T place label = do
+    Costs n (NormalFieldOf d T place label) field_count
+unfolding NormalFieldOf
+normal_field d T place label = do
   type_ ← skip
   name ← one
   skip
@@ -174,7 +174,7 @@ after_label : {n : ℕ} (d : ℕ) {F : List Lexeme → FieldStatementSyntax →
     Type 0} (place : Place) (label : Option Label) → Costs 0 F field_count →
     Costs n (AfterLabel d F place label) field_count
 unfolding AfterLabel
-after_label d place label f = either (group_of place label f) (plain_field d _ place label)
+after_label d place label f = either (group_of place label f) (normal_field d _ place label)
 
 field_of : {n : ℕ} (syntax : Syntax) (d : ℕ) {F : List Lexeme → FieldStatementSyntax → Type 0} →
     Costs 0 F field_count → Costs n (FieldOf syntax d F) field_count
@@ -182,7 +182,7 @@ unfolding FieldOf
 field_of Proto2 d f =
     at_place (λ t. either
     (do l ← skip; after_label (suc d) t.place (Some l) f)
-    (plain_field (suc d) _ t.place None))
+    (normal_field (suc d) _ t.place None))
 field_of Proto3 d f =
     at_place (λ t. either
     (do l ← skip; after_label (suc d) t.place (Some l) f)

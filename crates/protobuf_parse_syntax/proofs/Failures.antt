@@ -1,6 +1,6 @@
 -- Why nothing is read, of readers of different things.
 use Rattle.std.proofs.Common.{◌≡◌, refl, ap}
-use Rattle.protobuf_parse_base.specs.Readers.{Rest, Read, read, stuck, wrong}
+use Rattle.protobuf_parse_grammar.specs.Readers.{Rest, Read, read, stuck, wrong}
 use Rattle.protobuf_parse_lexer.specs.Tokens.{Lexeme}
 use Rattle.protobuf_parse_lexer.specs.declared.lexer.token.Place.{Place}
 use Rattle.protobuf_parse_syntax.specs.Code.{Failure, at, off, too_deep, failed}

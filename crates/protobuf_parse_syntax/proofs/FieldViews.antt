@@ -17,9 +17,9 @@ pub views_named : (n : String Global) → tree.type_syntax (type_.Named n)
 views_named n = ap tree.type_syntax (sym (type_.rolls-Named n))
     ∙ fold-roll-Type TypeSyntax tree.type_step (type_layer.Named n)
 
-pub views_plain : (f : Field)
+pub views_normal : (f : Field)
     → tree.field_statement_syntax (statement.Field f) ≡ tree.field (tree.field_syntax f)
-views_plain f = ap tree.field_statement_syntax (sym (statement.rolls-Field f))
+views_normal f = ap tree.field_statement_syntax (sym (statement.rolls-Field f))
     ∙ fold-roll-FieldStatement FieldStatementSyntax GroupSyntax tree.field_statement_step
     tree.group_step (statement_layer.Field f)
 

@@ -1,13 +1,14 @@
 -- What readers of fields read.
 use Rattle.std.proofs.Common.{◌≡◌, ◌≤◌, ◌-◌, ℕ, suc, List, [], ◌∷◌, ◌++◌, Option, Some, None, Bool}
-use Rattle.std.proofs.Common.{true, false, not, is_some, ◌||◌, cond, bytes_eq, refl, ◌∙◌, codes, arith}
-use Rattle.protobuf_parse_base.specs.Relations.{somes}
-use Rattle.protobuf_parse_base.specs.Readers.{Rest, end, token, read, stuck, bind}
-use Rattle.protobuf_parse_base.specs.Relations.{seen}
-use Rattle.protobuf_parse_base.specs.Combinators.{taken}
-use Rattle.protobuf_parse_base.specs.Readers.{starts, starts-within, first-of, last-of}
-use Rattle.protobuf_parse_base.specs.Combinators.{run_many}
-use Rattle.protobuf_parse_base.specs.Conditions.{mark_of}
+use Rattle.std.proofs.Common.{true, false, not, is_some, ◌||◌, cond, bytes_eq, refl, ◌∙◌, codes, inl}
+use Rattle.std.proofs.Common.{arith}
+use Rattle.protobuf_parse_grammar.specs.Relations.{somes}
+use Rattle.protobuf_parse_grammar.specs.Readers.{Rest, end, token, read, stuck, bind}
+use Rattle.protobuf_parse_grammar.specs.Relations.{seen}
+use Rattle.protobuf_parse_grammar.specs.Combinators.{taken}
+use Rattle.protobuf_parse_grammar.specs.Readers.{starts, starts-within, first-of, last-of}
+use Rattle.protobuf_parse_grammar.specs.Combinators.{run_many}
+use Rattle.protobuf_parse_grammar.specs.Conditions.{mark_of}
 use Rattle.protobuf_parse_lexer.specs.Text.{Bytes}
 use Rattle.protobuf_parse_lexer.specs.Tokens.{Lexeme}
 use Rattle.protobuf_parse_lexer.specs.Classes.{Class, symbol as symbol_class, word as word_class}
@@ -24,9 +25,10 @@ use Rattle.protobuf_parse_syntax.specs.Grammar.{table_words}
 use Rattle.protobuf_parse_syntax.specs.Productions.{symbol, word, ident, name, root, dotted}
 use Rattle.protobuf_parse_syntax.specs.Nested as nest
 use Rattle.protobuf_parse_syntax.specs.Nested.{field_of, after_label, group_of, field_block_of}
-use Rattle.protobuf_parse_syntax.specs.Nested.{field_items_of, field_item_of, plain_field}
+use Rattle.protobuf_parse_syntax.specs.Nested.{field_items_of, field_item_of, normal_field}
 use Rattle.protobuf_parse_syntax.specs.Nested.{map_field, map_of, oneof_field}
-use Rattle.protobuf_parse_syntax.specs.Code.{AtOneToken, Stands}
+use Rattle.protobuf_parse_syntax.specs.Code.{AtOneToken, Fails, Stands}
+use Rattle.protobuf_parse_syntax.specs.declared.parser.refusal.Refusal.TheVariants.{Fault}
 use Rattle.protobuf_parse_syntax.specs.Words.{Finds}
 use Rattle.protobuf_parse_syntax.specs.Fields.{type_more, type_named, after_label_in}
 use Rattle.protobuf_parse_syntax.specs.Fields.{reads_map_field, labels_in, group_firsts, field_in}
@@ -208,8 +210,8 @@ type_absent n ts l h =
     ∙ rw (name_absent ts h) refl
 
 plain_absent : (n : ℕ) (place : Place) (label : Option Label) (ts : Rest Lexeme Place) → 1 ≤ n
-    → starts lexicon name_firsts ts ≡ false → (plain_field n place label).low.run ts ≡ stuck ts
-unfolding plain_field
+    → starts lexicon name_firsts ts ≡ false → (normal_field n place label).low.run ts ≡ stuck ts
+unfolding normal_field
 plain_absent n place label ts l h =
     rw (starts-within lexicon group_firsts name_firsts ts refl h, type_absent n ts l h) refl
 
@@ -287,5 +289,5 @@ stands e ts h = absurd h
 -- no field begins with the next token
 pub field_absent : (s : Syntax) (j : ℕ) (ts : Rest Lexeme Place) (e : ParserError)
     → starts lexicon (nest.field_firsts s) ts ≡ false → AtOneToken e
-    → ((field_in s j).run ts ≡ stuck ts) × Stands e ts
-field_absent s j ts e h f = (absent s j ts h, stands e ts f)
+    → Fails (Fault e) ts ((field_in s j).run ts)
+field_absent s j ts e h f = inl (absent s j ts h, stands e ts f)

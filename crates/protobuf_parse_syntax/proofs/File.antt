@@ -1,16 +1,16 @@
 -- What the reader of a file gives, said of the grammar.
 use Rattle.std.proofs.Common.{◌≡◌, ℕ, ◌+◌, List, [], ◌∷◌, ◌++◌, true, false, add-zero}
 use Rattle.std.proofs.Common.{refl, sym, ap, subst, ◌∙◌, inl, inr, ◌⊎◌}
-use Rattle.protobuf_parse_base.specs.Readers.{deep, Rest, end, token, onto, onto-append, read}
-use Rattle.protobuf_parse_base.specs.Readers.{stuck}
-use Rattle.protobuf_parse_base.specs.Readers.{wrong, Begins, starts}
-use Rattle.protobuf_parse_base.specs.Relations.{BeginsOtherwise}
+use Rattle.protobuf_parse_grammar.specs.Readers.{deep, Rest, end, token, onto, onto-append, read}
+use Rattle.protobuf_parse_grammar.specs.Readers.{stuck}
+use Rattle.protobuf_parse_grammar.specs.Readers.{wrong, Begins, starts}
+use Rattle.protobuf_parse_grammar.specs.Relations.{BeginsOtherwise}
 use Rattle.protobuf_parse_lexer.specs.Tokens.{Lexeme}
-use Rattle.protobuf_parse_base.specs.Conditions.{mark_of}
-use Rattle.protobuf_parse_base.specs.Whole.{whole, left_whole, local_stuck, local_wrong}
-use Rattle.protobuf_parse_base.specs.Relations.{StopsAt}
-use Rattle.protobuf_parse_base.specs.Whole.{deep_found, deep_only, deep_wrong}
-use Rattle.protobuf_parse_base.specs.Whole.{deep_stops, deep_leaves}
+use Rattle.protobuf_parse_grammar.specs.Conditions.{mark_of}
+use Rattle.protobuf_parse_grammar.specs.Whole.{whole, left_whole, local_stuck, local_wrong}
+use Rattle.protobuf_parse_grammar.specs.Relations.{StopsAt}
+use Rattle.protobuf_parse_grammar.specs.Whole.{deep_found, deep_only, deep_wrong}
+use Rattle.protobuf_parse_grammar.specs.Whole.{deep_stops, deep_leaves}
 use Rattle.protobuf_parse_lexer.specs.Classes.{symbol, float, text, is_one_of, is_floating}
 use Rattle.protobuf_parse_lexer.specs.Cut.{out_of_memory}
 use Rattle.protobuf_parse_lexer.specs.Cut.{error_place as place_at}
@@ -34,8 +34,7 @@ use Rattle.protobuf_parse_syntax.specs.Code.{Stands, Says, Tells, Fails, NoVersi
 use Rattle.protobuf_parse_syntax.specs.Code.{SaysNot, SignedFloat, IsLargeNext, comes, begins_part}
 use Rattle.protobuf_parse_syntax.specs.Code.{is_end, RefusesFile, error_at}
 use Rattle.protobuf_parse_syntax.specs.declared.parser.refusal.Refusal.{Refusal}
-use Rattle.protobuf_parse_syntax.specs.declared.parser.refusal.Refusal.TheVariants.{Memory, Next}
-use Rattle.protobuf_parse_syntax.specs.declared.parser.refusal.Refusal.TheVariants.{Here}
+use Rattle.protobuf_parse_syntax.specs.declared.parser.refusal.Refusal.TheVariants.{Memory, Fault}
 
 -- ---- a token at a place
 
@@ -144,11 +143,8 @@ strings_at ts used m e (token t us) rest pieces parts h behind says =
     (strings_next used l.used m e t us rest pieces l.parts l.holds
     (str_ends (token t us) rest pieces h) behind says)
 
-here_is : (e x : ParserError) → (let r : Refusal = Here e in r ≡ Here x) → e ≡ x
-here_is e x h = cc
-
-not_here : (e x : ParserError) → (let r : Refusal = Next e in r ≡ Here x) → ⊥
-not_here e x h = cc
+same_fault : (e x : ParserError) → (let r : Refusal = Fault e in r ≡ Fault x) → e ≡ x
+same_fault e x h = cc
 
 -- ---- a file
 
@@ -283,11 +279,11 @@ module _ (ts : List Lexeme) (m : Place) (n : ℕ) where
 
     -- the string of `syntax` says no version
     version_fault : (e : ParserError) (after : Rest Lexeme Place)
-        → NoVersion (whole ts m) (Here e) after ((nest.files n).low.run (whole ts m))
+        → NoVersion (whole ts m) (Fault e) after ((nest.files n).low.run (whole ts m))
         → IsGrammarFault ts m e (mark_of place_of after)
     version_fault e after h =
         let k = h.2 in
-        let same : e ≡ error.UnknownSyntax = here_is e error.UnknownSyntax h.0 in
+        let same : e ≡ error.UnknownSyntax = same_fault e error.UnknownSyntax h.0 in
         rw same (
           none_if_wrong (whole ts m) h.1,
           strings_at_fault error.UnknownSyntax k.0 after k.1 k.2 k.3,
@@ -298,10 +294,9 @@ module _ (ts : List Lexeme) (m : Place) (n : ℕ) where
         ⊎ NoVersion (whole ts m) e after ((nest.files n).low.run (whole ts m))
         → RefusesFile ts m e (mark_of place_of after)
     refused Memory after h = tt
-    refused (Next e) after (inl h) = next_fault e after h.0 h.1
-    refused (Next e) after (inr h) = absurd (not_here e error.UnknownSyntax h.0)
-    refused (Here e) after (inl h) = here_fault e after h.0 h.1 h.2
-    refused (Here e) after (inr h) = version_fault e after h
+    refused (Fault e) after (inl (inl h)) = next_fault e after h.0 h.1
+    refused (Fault e) after (inl (inr h)) = here_fault e after h.0 h.1 h.2
+    refused (Fault e) after (inr h) = version_fault e after h
 
 -- where a fault stands there is no tree
 pub fault_none : (ts : List Lexeme) (last place : Place) (e : ParserError)
@@ -333,5 +328,4 @@ pub told_or : {A : Type 0} (ts : List Lexeme) (m : Place) (e : Refusal) (next : 
     (r : ParserErrorWithLocation) → RefusesFile ts m e next → r ≡ error_at e next
     → (r ≡ out_of_memory) ⊎ A ⊎ IsGrammarFault ts m r.error (place_at r)
 told_or ts m Memory next r h e = inl e
-told_or ts m (Next x) next r h e = inr (inr (rw e h))
-told_or ts m (Here x) next r h e = inr (inr (rw e h))
+told_or ts m (Fault x) next r h e = inr (inr (rw e h))

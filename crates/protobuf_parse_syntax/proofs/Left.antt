@@ -1,7 +1,7 @@
 -- What a cursor has left.
 use Rattle.std.proofs.Common.{◌≡◌, List, [], ◌∷◌, ◌||◌, refl, Option, Some, None, is_none}
-use Rattle.protobuf_parse_base.specs.Readers.{Rest, starts, starts-append}
-use Rattle.protobuf_parse_base.specs.Whole.{whole}
+use Rattle.protobuf_parse_grammar.specs.Readers.{Rest, starts, starts-append}
+use Rattle.protobuf_parse_grammar.specs.Whole.{whole}
 use Rattle.protobuf_parse_lexer.specs.AheadViews.{with_next}
 use Rattle.protobuf_parse_lexer.specs.Text.{Bytes}
 use Rattle.protobuf_parse_lexer.specs.Tokens.{Lexeme}

@@ -1,9 +1,9 @@
 -- 101 levels suffice: of tokens that nest at most 100 deep no part meets what is too deep.
 use Rattle.std.proofs.Common.{◌≡◌, ℕ, zero, suc, ◌+◌, ◌≤◌, true, false, List, [], ◌∷◌}
 use Rattle.std.proofs.Common.{refl, sym, ◌∙◌, arith, codes, None}
-use Rattle.protobuf_parse_base.specs.Readers.{Rest, deep, nested}
-use Rattle.protobuf_parse_base.specs.Pairs.{both, none-le, level-suc}
-use Rattle.protobuf_parse_base.specs.Whole.{whole}
+use Rattle.protobuf_parse_grammar.specs.Readers.{Rest, deep, nested}
+use Rattle.protobuf_parse_grammar.specs.Pairs.{both, none-le, level-suc}
+use Rattle.protobuf_parse_grammar.specs.Whole.{whole}
 use Rattle.protobuf_parse_lexer.specs.Tokens.{Lexeme, IsShallow}
 use Rattle.protobuf_parse_lexer.specs.Classes.{symbol as symbol_class, word as word_class}
 use Rattle.protobuf_parse_lexer.specs.Classes.{words}
@@ -26,7 +26,7 @@ use Rattle.protobuf_parse_syntax.proofs.Calm.{Calm, Quiet, flat, give, ◌>>=◌
 use Rattle.protobuf_parse_syntax.proofs.Calm.{unless, at, from_start}
 use Rattle.protobuf_parse_syntax.proofs.Calm.{as_reader, any}
 use Rattle.protobuf_parse_syntax.proofs.QuietFields.{item, statements, deeper, option, options}
-use Rattle.protobuf_parse_syntax.proofs.QuietFields.{after_type, plain_field, field_item_of}
+use Rattle.protobuf_parse_syntax.proofs.QuietFields.{after_type, normal_field, field_item_of}
 use Rattle.protobuf_parse_syntax.proofs.QuietFields.{field_items_of, field_block_of, group_of}
 use Rattle.protobuf_parse_syntax.proofs.QuietFields.{after_label, field}
 use Rattle.protobuf_parse_syntax.specs.Trees as tree
@@ -76,9 +76,9 @@ oneof_parts {n = n} s d h = shaped (nested (word_class (codes "oneof") ∷ []) f
 oneof_is : (n : ℕ) (s : Syntax) (d : ℕ) (h : 101 ≤ n + d) (ts : Rest Lexeme Place) →
     (nest.oneof s d).low.run ts ≡ (oneof_parts s d h).reader.run ts
 unfolding oneof_parts oneof_items oneof_statement oneof_field after_label group_of field_block_of
-    field_items_of field_item_of plain_field after_type nest.oneof_pair nest.oneof_items
+    field_items_of field_item_of normal_field after_type nest.oneof_pair nest.oneof_items
     nest.oneof_item nest.oneof_statement nest.oneof_field nest.after_label nest.group_of
-    nest.field_block_of nest.field_items_of nest.field_item_of nest.plain_field
+    nest.field_block_of nest.field_items_of nest.field_item_of nest.normal_field
     nest.after_type_parts
 oneof_is n Proto2 d h ts = refl
 oneof_is n Proto3 d h ts = refl

@@ -4,12 +4,12 @@ use Rattle.std.proofs.Common.{Result, Ok, Err}
 use Rattle.std.proofs.Common.{inl, inr, refl, sym, ap, subst, ◌∙◌, append_assoc}
 use Rattle.std.proofs.lemmas.List.{append-nil}
 use Rattle.protobuf_parse_base.specs.Characters as char
-use Rattle.protobuf_parse_base.specs.Combinators.{run_many}
-use Rattle.protobuf_parse_base.specs.Conditions.{mark_of}
-use Rattle.protobuf_parse_base.specs.Loops.{with_rest, shows_themselves, ends_wrong}
-use Rattle.protobuf_parse_base.specs.Readers.{Rest, onto, onto-append, Read, read, wrong, bind}
-use Rattle.protobuf_parse_base.specs.Readers.{Shape, Reader, starts}
-use Rattle.protobuf_parse_base.specs.Relations.{Many, none, more}
+use Rattle.protobuf_parse_grammar.specs.Combinators.{run_many}
+use Rattle.protobuf_parse_grammar.specs.Conditions.{mark_of}
+use Rattle.protobuf_parse_grammar.specs.Loops.{with_rest, shows_themselves, ends_wrong}
+use Rattle.protobuf_parse_grammar.specs.Readers.{Rest, onto, onto-append, Read, read, wrong, bind}
+use Rattle.protobuf_parse_grammar.specs.Readers.{Shape, Reader, starts}
+use Rattle.protobuf_parse_grammar.specs.Relations.{Many, none, more}
 use Rattle.protobuf_parse_lexer.specs.Text.{Bytes}
 use Rattle.protobuf_parse_lexer.specs.Tokens.{Lexeme}
 use Rattle.protobuf_parse_lexer.specs.Classes.{Class, symbol as symbol_class}

@@ -1,15 +1,15 @@
 -- Loops of the parser: what an iteration keeps, and how a loop ends.
 use Rattle.std.proofs.Common.{◌≡◌, List, [], ◌∷◌, ◌++◌, ◌<◌, map, Option, Some, None, true, false}
-use Rattle.std.proofs.Common.{refl, sym, ap, ◌∙◌, append_assoc}
+use Rattle.std.proofs.Common.{refl, sym, ap, ◌∙◌, inl, inr, append_assoc}
 use Rattle.std.specs.Option.{option_to_list}
 use Rattle.std.proofs.lemmas.List.{map_push, append-nil}
-use Rattle.protobuf_parse_base.specs.Relations.{Then, somes}
-use Rattle.protobuf_parse_base.specs.Readers.{Rest, Read, read, stuck, wrong, deep, size, Shape}
-use Rattle.protobuf_parse_base.specs.Readers.{shape, Reader, starts}
-use Rattle.protobuf_parse_base.specs.Combinators.{then_shape, run_many, many-law}
-use Rattle.protobuf_parse_base.specs.Combinators.{shorter, ◌>>◌}
-use Rattle.protobuf_parse_base.specs.Loops.{Shows, shows_themselves, with_rest, goes_on, stops_here}
-use Rattle.protobuf_parse_base.specs.Loops.{ends_stuck, ends_wrong}
+use Rattle.protobuf_parse_grammar.specs.Relations.{Then, somes}
+use Rattle.protobuf_parse_grammar.specs.Readers.{Rest, Read, read, stuck, wrong, deep, size, Shape}
+use Rattle.protobuf_parse_grammar.specs.Readers.{shape, Reader, starts}
+use Rattle.protobuf_parse_grammar.specs.Combinators.{then_shape, run_many, many-law}
+use Rattle.protobuf_parse_grammar.specs.Combinators.{shorter, ◌>>◌}
+use Rattle.protobuf_parse_grammar.specs.Loops.{Shows, shows_themselves, with_rest, goes_on, stops_here}
+use Rattle.protobuf_parse_grammar.specs.Loops.{ends_stuck, ends_wrong}
 use Rattle.protobuf_parse_lexer.specs.Text.{Bytes}
 use Rattle.protobuf_parse_lexer.specs.Tokens.{Lexeme}
 use Rattle.protobuf_parse_lexer.specs.Classes.{Class, symbol as symbol_class}
@@ -20,8 +20,7 @@ use Rattle.protobuf_parse_syntax.specs.ClassLaws.{lexicon}
 use Rattle.protobuf_parse_syntax.specs.Productions.{symbol}
 use Rattle.protobuf_parse_syntax.specs.Code.{Fails, fails_first, Failure, at, off, too_deep, failed}
 use Rattle.protobuf_parse_syntax.specs.declared.parser.refusal.Refusal.{Refusal}
-use Rattle.protobuf_parse_syntax.specs.declared.parser.refusal.Refusal.TheVariants.{Memory, Next}
-use Rattle.protobuf_parse_syntax.specs.declared.parser.refusal.Refusal.TheVariants.{Here}
+use Rattle.protobuf_parse_syntax.specs.declared.parser.refusal.Refusal.TheVariants.{Memory, Fault}
 
 -- a list behind which an item was put, if there was one
 pub pushed : {X Y : Type 0} (view : X → Y) (old new : List X) (item : Option X)
@@ -48,10 +47,10 @@ module _ {A B C : Type 0} {R : List Lexeme → A → Type 0} {s : Shape Class}
       (total : Read Lexeme Place C) → starts lexicon s.firsts ts ≡ true → Fails e rest (item.run ts)
       → total ≡ with_rest shown make front (run_many item ts) → Fails e rest total
   fails front ts rest Memory total t h so_far = tt
-  fails front ts rest (Next e) total t h so_far =
-      (ends_stuck item some shown law make front ts rest total t h.0 so_far, h.1)
-  fails front ts rest (Here e) total t h so_far =
-      (h.0, fails_as front ts h.0 total t h.1 so_far, h.2)
+  fails front ts rest (Fault e) total t (inl h) so_far =
+      inl (ends_stuck item some shown law make front ts rest total t h.0 so_far, h.1)
+  fails front ts rest (Fault e) total t (inr h) so_far =
+      inr (h.0, fails_as front ts h.0 total t h.1 so_far, h.2)
 
 -- what is there, and all that many parts are
 pub with_all : {A : Type 0} (r : Read Lexeme Place (List A))

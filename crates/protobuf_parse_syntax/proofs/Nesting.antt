@@ -3,7 +3,7 @@ use Rattle.std.proofs.Common.{◌≡◌, ℕ, zero, suc, ◌+◌, ◌≤◌, Boo
 use Rattle.std.proofs.Common.{Option, Some, None, refl, ap, arith, All, cond, append-nil, ℤ}
 use Rattle.std.proofs.Common.{slice_index, codes}
 use Rattle.std.proofs.lemmas.List.Elements.{All-nil, All-tail, All-head}
-use Rattle.protobuf_parse_base.specs.Relations.{Level, One}
+use Rattle.protobuf_parse_grammar.specs.Relations.{Level, One}
 use Rattle.protobuf_parse_lexer.specs.Tokens.{Lexeme}
 use Rattle.protobuf_parse_lexer.specs.declared.lexer.token.Place.{Place}
 use Rattle.protobuf_parse_lexer.specs.Text.{Bytes}
@@ -20,7 +20,7 @@ use Rattle.protobuf_parse_syntax.specs.Grammar.{IsWordConstant, ConstantOf, IsCo
 use Rattle.protobuf_parse_syntax.specs.Grammar.{IsOptionPart, IsNextPart, IsOptionName}
 use Rattle.protobuf_parse_syntax.specs.Grammar.{IsAssignment, IsOption, AreOptions, scalars, MapOf}
 use Rattle.protobuf_parse_syntax.specs.Grammar.{TypeOf, IsType, labels, labels3, IsFieldNumber}
-use Rattle.protobuf_parse_syntax.specs.Grammar.{is_capital, capital_ident, PlainFieldOf, GroupOf}
+use Rattle.protobuf_parse_syntax.specs.Grammar.{is_capital, capital_ident, NormalFieldOf, GroupOf}
 use Rattle.protobuf_parse_syntax.specs.Grammar.{AfterLabel, FieldOf, IsField, IsOneofField}
 use Rattle.protobuf_parse_syntax.specs.Grammar.{IsOneofStatement, IsOneof, IsExtend, IsRangeEnd}
 use Rattle.protobuf_parse_syntax.specs.Grammar.{IsRange, IsReservedName, AreReserved, IsReserved}
@@ -335,11 +335,11 @@ capital_none false = refl
 pub capital : {n : ℕ} → Keeps n n (One capital_ident) Any
 capital = one (λ c text place. capital_none (is_capital (slice_index text 0)))
 
-pub plain_field : {n : ℕ} (d : ℕ) {T : List Lexeme → TypeSyntax →
+pub normal_field : {n : ℕ} (d : ℕ) {T : List Lexeme → TypeSyntax →
     Type 0} (place : Place) (label : Option Label) → Keeps n n T Any →
-    Keeps n n (PlainFieldOf d T place label) (FieldIn n)
-unfolding PlainFieldOf
-plain_field d place label t = do
+    Keeps n n (NormalFieldOf d T place label) (FieldIn n)
+unfolding NormalFieldOf
+normal_field d place label t = do
   type_ ← t
   name ← ident
   symbol 61 refl
@@ -367,7 +367,7 @@ pub after_label : {n : ℕ} (d : ℕ) {F : List Lexeme → FieldStatementSyntax 
     Keeps n n (AfterLabel d F place label) (FieldIn n)
 unfolding AfterLabel
 after_label d place label f =
-    either (group_of place label f) (plain_field d place label (unless (type_ d)))
+    either (group_of place label f) (normal_field d place label (unless (type_ d)))
 
 pub field_of : {n : ℕ} (syntax : Syntax) (d : ℕ) {F : List Lexeme → FieldStatementSyntax → Type 0} →
     Keeps (suc n) (suc n) F (FieldIn (suc n)) → Keeps n n (FieldOf syntax d F) (FieldIn n)
@@ -375,7 +375,7 @@ unfolding FieldOf
 field_of Proto2 d f =
     at_place (λ t. either
     (do l ← word_of_table labels; after_label (suc d) t.place (Some l.0) f)
-    (plain_field (suc d) t.place None (map_of (type_ d))))
+    (normal_field (suc d) t.place None (map_of (type_ d))))
 field_of Proto3 d f =
     at_place (λ t. either
     (do l ← word_of_table labels3; after_label (suc d) t.place (Some l.0) f)

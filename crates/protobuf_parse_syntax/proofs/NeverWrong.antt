@@ -1,11 +1,11 @@
 -- Parts that are never wrong: the names of the language, in which nothing is looked up.
 use Rattle.std.proofs.Common.{◌≡◌, ◌<◌, ℕ, zero, suc, List, [], ◌∷◌, ◌⊎◌, Option, Some, None, Bool}
 use Rattle.std.proofs.Common.{true, false, cond, refl, sym, ◌∙◌, inl, inr, arith}
-use Rattle.protobuf_parse_base.specs.Readers.{Rest, end, token, size, Read, read, wrong}
-use Rattle.protobuf_parse_base.specs.Readers.{bind, bind_wrong, Shape, Reader}
-use Rattle.protobuf_parse_base.specs.Combinators.{taken, run_one}
-use Rattle.protobuf_parse_base.specs.Readers.{starts}
-use Rattle.protobuf_parse_base.specs.Combinators.{run_many, many-law, shorter, with_first}
+use Rattle.protobuf_parse_grammar.specs.Readers.{Rest, end, token, size, Read, read, wrong}
+use Rattle.protobuf_parse_grammar.specs.Readers.{bind, bind_wrong, Shape, Reader}
+use Rattle.protobuf_parse_grammar.specs.Combinators.{taken, run_one}
+use Rattle.protobuf_parse_grammar.specs.Readers.{starts}
+use Rattle.protobuf_parse_grammar.specs.Combinators.{run_many, many-law, shorter, with_first}
 use Rattle.protobuf_parse_lexer.specs.Tokens.{Lexeme}
 use Rattle.protobuf_parse_lexer.specs.Classes.{Class}
 use Rattle.protobuf_parse_lexer.specs.declared.lexer.token.Place.{Place}

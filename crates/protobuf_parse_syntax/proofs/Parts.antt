@@ -2,12 +2,12 @@
 use Rattle.std.proofs.Common.{◌≡◌, ◌⊎◌, ℕ, zero, suc, List, [], ◌∷◌, ◌++◌, length, Bool, true}
 use Rattle.std.proofs.Common.{false, ◌||◌, cond, inl, inr, refl, sym, ap, subst, ◌∙◌, append_assoc}
 use Rattle.std.proofs.lemmas.List.{append-nil}
-use Rattle.protobuf_parse_base.specs.Relations.{Many, none, more}
-use Rattle.protobuf_parse_base.specs.Readers.{Rest, end, token, onto, onto-append, Read, read}
-use Rattle.protobuf_parse_base.specs.Readers.{stuck, wrong, deep, bind, bind_read, bind_wrong}
-use Rattle.protobuf_parse_base.specs.Readers.{read_parts, starts}
-use Rattle.protobuf_parse_base.specs.Combinators.{with_first}
-use Rattle.protobuf_parse_base.specs.Loops.{with_rest}
+use Rattle.protobuf_parse_grammar.specs.Relations.{Many, none, more}
+use Rattle.protobuf_parse_grammar.specs.Readers.{Rest, end, token, onto, onto-append, Read, read}
+use Rattle.protobuf_parse_grammar.specs.Readers.{stuck, wrong, deep, bind, bind_read, bind_wrong}
+use Rattle.protobuf_parse_grammar.specs.Readers.{read_parts, starts}
+use Rattle.protobuf_parse_grammar.specs.Combinators.{with_first}
+use Rattle.protobuf_parse_grammar.specs.Loops.{with_rest}
 use Rattle.protobuf_parse_lexer.specs.Tokens.{Lexeme}
 use Rattle.protobuf_parse_lexer.specs.Classes.{Class, sees, symbol}
 use Rattle.protobuf_parse_lexer.specs.declared.lexer.token.Place.{Place}
@@ -24,8 +24,7 @@ use Rattle.protobuf_parse_syntax.specs.Code.{Failure, at, off, too_deep, failed,
 use Rattle.protobuf_parse_syntax.specs.Code.{Fails, TooMany, LongName, fails_first}
 use Rattle.protobuf_parse_syntax.specs.Parsing.{HundredParts}
 use Rattle.protobuf_parse_syntax.specs.declared.parser.refusal.Refusal.{Refusal}
-use Rattle.protobuf_parse_syntax.specs.declared.parser.refusal.Refusal.TheVariants.{Memory, Next}
-use Rattle.protobuf_parse_syntax.specs.declared.parser.refusal.Refusal.TheVariants.{Here}
+use Rattle.protobuf_parse_syntax.specs.declared.parser.refusal.Refusal.TheVariants.{Memory, Fault}
 use Rattle.protobuf_parse_syntax.proofs.Failures.{failed_as, never_failed}
 use Rattle.protobuf_parse_syntax.proofs.NeverWrong.{next_part_wrong}
 use Rattle.protobuf_parse_syntax.proofs.Wrongs.{fails_from_first}
@@ -120,9 +119,9 @@ pub fails_at_dot : {X : Type 0} (ts after : Rest Lexeme Place) (e : Refusal)
     (r : Read Lexeme Place X) → dotted ts → Fails e after ((parse.symbol 46).run ts)
     → Fails e after r
 fails_at_dot ts after Memory r dot h = tt
-fails_at_dot ts after (Next e) r dot h = let x = dot_read ts dot in
+fails_at_dot ts after (Fault e) r dot (inl h) = let x = dot_read ts dot in
     absurd (never_failed tt x.1 (at after) (sym x.4 ∙ h.0))
-fails_at_dot ts after (Here e) r dot h = let x = dot_read ts dot in
+fails_at_dot ts after (Fault e) r dot (inr h) = let x = dot_read ts dot in
     absurd (never_failed tt x.1 h.0 (sym x.4 ∙ h.1))
 
 starts_comes : (cs : List Class) (ts : Rest Lexeme Place) → starts lexicon cs ts ≡ comes cs ts
@@ -151,7 +150,7 @@ parts_full ts us dot is e = full_runs ts us false dot is e
 -- behind a dot begins a part too many
 pub tells_full : (ts after : Rest Lexeme Place) → dotted ts
     → (parse.symbol 46).run ts ≡ read tt after → begins_part after ≡ true
-    → TooMany (Here error.OptionNameTooLong) after ((parts_up_to 0).run ts)
+    → TooMany (Fault error.OptionNameTooLong) after ((parts_up_to 0).run ts)
 tells_full ts after dot is begins = (refl, full_runs ts after true dot is begins, begins)
 
 -- ---- a part too many
@@ -277,8 +276,8 @@ named_as first deep f e = failed_as too_deep f e
 fails_named : (first : OptionPartSyntax) (e : Refusal) (after : Rest Lexeme Place) (r : ReadParts)
     → Fails e after (with_first first r) → Fails e after (named first r)
 fails_named first Memory after r h = tt
-fails_named first (Next e) after r h = (named_as first r (at after) h.0, h.1)
-fails_named first (Here e) after r h = (h.0, named_as first r h.0 h.1, h.2)
+fails_named first (Fault e) after r (inl h) = inl (named_as first r (at after) h.0, h.1)
+fails_named first (Fault e) after r (inr h) = inr (h.0, named_as first r h.0 h.1, h.2)
 
 first_wrong : (first : OptionPartSyntax) (r : ReadParts) (after : Rest Lexeme Place)
     → with_first first r ≡ wrong after → r ≡ wrong after

@@ -2,10 +2,10 @@
 -- are left, less those that are open.
 use Rattle.std.proofs.Common.{◌≡◌, ℕ, zero, suc, ◌+◌, ◌≤◌, false, List, [], ◌∷◌}
 use Rattle.std.proofs.Common.{◌++◌, refl, sym, ◌∙◌, arith, codes, Option, Some, None}
-use Rattle.protobuf_parse_base.specs.Readers.{Rest, Shape, nested}
-use Rattle.protobuf_parse_base.specs.Pairs.{both, none-le, level-suc}
-use Rattle.protobuf_parse_base.specs.Relations.{Separated, Many, Then, somes}
-use Rattle.protobuf_parse_base.specs.Whole.{whole}
+use Rattle.protobuf_parse_grammar.specs.Readers.{Rest, Shape, nested}
+use Rattle.protobuf_parse_grammar.specs.Pairs.{both, none-le, level-suc}
+use Rattle.protobuf_parse_grammar.specs.Relations.{Separated, Many, Then, somes}
+use Rattle.protobuf_parse_grammar.specs.Whole.{whole}
 use Rattle.protobuf_parse_lexer.specs.Tokens.{Lexeme}
 use Rattle.protobuf_parse_lexer.specs.Classes.{Class, symbol as symbol_class, word as word_class}
 use Rattle.protobuf_parse_lexer.specs.Classes.{ident as ident_class, words, text, is_one_of}
@@ -16,7 +16,7 @@ use Rattle.protobuf_parse_syntax.specs.Trees.{ConstantSyntax}
 use Rattle.protobuf_parse_syntax.specs.NestedFields.{ValueOf}
 use Rattle.protobuf_parse_syntax.specs.Grammar.{other_constants, IsOption, AreOptions, TypeOf}
 use Rattle.protobuf_parse_syntax.specs.Grammar.{IsType, MapOf}
-use Rattle.protobuf_parse_syntax.specs.Grammar.{scalars, table_words, PlainFieldOf, GroupOf}
+use Rattle.protobuf_parse_syntax.specs.Grammar.{scalars, table_words, NormalFieldOf, GroupOf}
 use Rattle.protobuf_parse_syntax.specs.Grammar.{IsField}
 use Rattle.protobuf_parse_syntax.specs.Grammar.{AfterLabel, FieldOf, labels, labels3}
 use Rattle.protobuf_parse_syntax.specs.Grammar.{statement_words, Item, Statements, Braced}
@@ -27,7 +27,7 @@ use Rattle.protobuf_parse_syntax.specs.Trees.{TypeSyntax, FieldStatementSyntax}
 use Rattle.protobuf_parse_syntax.specs.NestedFields.{comma_shape, assignments_shape}
 use Rattle.protobuf_parse_syntax.specs.NestedFields.{bracketed_shape}
 use Rattle.protobuf_parse_syntax.specs.NestedFields.{Bracketed, AfterType, item_shape, items_shape}
-use Rattle.protobuf_parse_base.specs.Relations.{Unless}
+use Rattle.protobuf_parse_grammar.specs.Relations.{Unless}
 use Rattle.protobuf_parse_syntax.proofs.Balance.{fits-now, opening, closing}
 use Rattle.protobuf_parse_syntax.proofs.Calm.{Calm, Quiet, flat, give, ◌>>=◌, ◌>>◌, choose, shaped}
 use Rattle.protobuf_parse_syntax.proofs.Calm.{unless, at, many, separated, from_start, begun}
@@ -295,21 +295,21 @@ after_type d h place label type_ =
         options = options;
       }))) refl)
 
-unfoldable pub plain_field : {n : ℕ} (d : ℕ) → 101 ≤ n + d → (place : Place)
+unfoldable pub normal_field : {n : ℕ} (d : ℕ) → 101 ≤ n + d → (place : Place)
     (label : Option Label) →
-    Quiet n n (PlainFieldOf d (Unless (is_one_of (words (codes "group" ∷ []))) (IsType d)) place
+    Quiet n n (NormalFieldOf d (Unless (is_one_of (words (codes "group" ∷ []))) (IsType d)) place
     label) (nest.field_shape (symbol_class char.dot ∷ ident_class (codes "group" ∷ []) ∷ []))
-unfolding PlainFieldOf
-plain_field d h place label =
+unfolding NormalFieldOf
+normal_field d h place label =
     shaped (nest.field_shape (symbol_class char.dot ∷ ident_class (codes "group" ∷ []) ∷ [])) (do
       type_ ← unless (words (codes "group" ∷ [])) (type_ d h) refl
       after_type d h place label type_) refl
 
 -- the types of a map have a level less
 unfoldable pub map_field : {n : ℕ} (d : ℕ) → 101 ≤ suc n + d → 101 ≤ n + suc d → (place : Place) →
-    Quiet n n (PlainFieldOf (suc d) (MapOf (IsType d)) place None)
+    Quiet n n (NormalFieldOf (suc d) (MapOf (IsType d)) place None)
     (nest.field_shape (word_class (codes "map") ∷ []))
-unfolding PlainFieldOf
+unfolding NormalFieldOf
 map_field d h k place = shaped (nest.field_shape (word_class (codes "map") ∷ [])) (do
   type_ ← map_of (type_ d h)
   after_type (suc d) k place None type_) refl
@@ -362,7 +362,7 @@ group_of s place label p = shaped (nest.field_shape (word_class (codes "group") 
     fields = fields;
   }))) refl
 
--- a plain field of d levels, or a group
+-- a normal field of d levels, or a group
 unfoldable pub after_label : {n : ℕ} (s : Syntax) {R : List Lexeme → FieldStatementSyntax → Type 0}
     (d : ℕ) → 101 ≤ n + d → (place : Place) (label : Option Label) →
     Quiet (suc n) (suc n) R (nest.field_shape (nest.field_firsts s)) →
@@ -370,7 +370,7 @@ unfoldable pub after_label : {n : ℕ} (s : Syntax) {R : List Lexeme → FieldSt
 unfolding AfterLabel
 after_label s d h place label p =
     shaped nest.after_label_shape
-    (choose (group_of s place label p) refl (plain_field d h place label)) refl
+    (choose (group_of s place label p) refl (normal_field d h place label)) refl
 
 unfoldable pub field_of : {n : ℕ} (s : Syntax) {R : List Lexeme → FieldStatementSyntax → Type 0}
     (d : ℕ) → 101 ≤ suc n + d → 101 ≤ n + suc d →
@@ -396,8 +396,8 @@ field_is : (s : Syntax) (d n : ℕ) {R : List Lexeme → FieldStatementSyntax �
     (ts : Rest Lexeme Place) →
     (nest.field_of s d 0 h R R (both q.reader)).low.run ts ≡ (field_of s d i k q).reader.run ts
 unfolding field_of after_label group_of field_block_of field_items_of field_item_of map_field
-    plain_field after_type map_of nest.field_of nest.after_label nest.group_of
-    nest.field_block_of nest.field_items_of nest.field_item_of nest.map_field nest.plain_field
+    normal_field after_type map_of nest.field_of nest.after_label nest.group_of
+    nest.field_block_of nest.field_items_of nest.field_item_of nest.map_field nest.normal_field
     nest.after_type_parts nest.map_of
 field_is Proto2 d n h i k q ts = refl
 field_is Proto3 d n h i k q ts = refl

@@ -4,11 +4,11 @@ use Rattle.std.proofs.Common.{Option, Some, None, codes, refl, ap, ◌∙◌, su
 use Rattle.std.specs.Str.{IsUtf8}
 use Rattle.std.proofs.lemmas.Str.{IsUtf8-from_ascii}
 use Rattle.protobuf_parse_base.specs.Paths.{IsProtoPath, path_fault}
-use Rattle.protobuf_parse_base.specs.Readers.{Rest, Read, read, stuck, wrong, deep, bind, bind_read}
-use Rattle.protobuf_parse_base.specs.Readers.{read_parts, size, starts}
-use Rattle.protobuf_parse_base.specs.Combinators.{run_many, many-law, shorter}
-use Rattle.protobuf_parse_base.specs.Combinators.{with_first}
-use Rattle.protobuf_parse_base.specs.Conditions.{meaning}
+use Rattle.protobuf_parse_grammar.specs.Readers.{Rest, Read, read, stuck, wrong, deep, bind, bind_read}
+use Rattle.protobuf_parse_grammar.specs.Readers.{read_parts, size, starts}
+use Rattle.protobuf_parse_grammar.specs.Combinators.{run_many, many-law, shorter}
+use Rattle.protobuf_parse_grammar.specs.Combinators.{with_first}
+use Rattle.protobuf_parse_grammar.specs.Conditions.{meaning}
 use Rattle.protobuf_parse_base.specs.declared.proto_path.error.PathError.{PathError}
 use Rattle.protobuf_parse_lexer.specs.Text.{Bytes}
 use Rattle.protobuf_parse_lexer.specs.Tokens.{Lexeme, DecodesAll}
@@ -34,8 +34,7 @@ use Rattle.protobuf_parse_syntax.specs.ClassLaws.{lexicon}
 use Rattle.protobuf_parse_syntax.specs.Code.{Failure, at, off, too_deep, failed, Fails, Unsaid}
 use Rattle.protobuf_parse_syntax.specs.Code.{of_text, of_version, of_path, refusal_of}
 use Rattle.protobuf_parse_syntax.specs.declared.parser.refusal.Refusal.{Refusal}
-use Rattle.protobuf_parse_syntax.specs.declared.parser.refusal.Refusal.TheVariants.{Memory, Next}
-use Rattle.protobuf_parse_syntax.specs.declared.parser.refusal.Refusal.TheVariants.{Here}
+use Rattle.protobuf_parse_syntax.specs.declared.parser.refusal.Refusal.TheVariants.{Memory, Fault}
 use Rattle.protobuf_parse_syntax.specs.declared.tree.Syntax.{Syntax}
 use Rattle.protobuf_parse_syntax.specs.declared.tree.Syntax.TheVariants.{Proto2, Proto3}
 use Rattle.protobuf_parse_syntax.proofs.Failures.{failed_as, never_failed}
@@ -174,10 +173,10 @@ module _ {B : Type 0} (M : Pieces → B → Type 0) (means : Pieces → Option B
       ⊎ Unsaid faults ts e after ((finding str M means to from).run ts)
   unfolding reserved_name
   fails_as_text faults among Memory ts after h = inl tt
-  fails_as_text faults among (Next e) ts after (inl h) =
-      inl (no_text-at ts (at after) (str.run ts) h.0, h.1)
-  fails_as_text faults among (Here e) ts after (inl h) =
-      inl (h.0, no_text-at ts h.0 (str.run ts) h.1, h.2)
+  fails_as_text faults among (Fault e) ts after (inl (inl h)) =
+      inl (inl (no_text-at ts (at after) (str.run ts) h.0, h.1))
+  fails_as_text faults among (Fault e) ts after (inl (inr h)) =
+      inl (inr (h.0, no_text-at ts h.0 (str.run ts) h.1, h.2))
   fails_as_text faults among e ts after (inr (x, told, here, stands, w, says)) =
       inr (x, among x told, here, stands, no_text-at ts (off ts) (str.run ts) w, says)
 
@@ -219,8 +218,8 @@ module _ (ts us : Rest Lexeme Place) (text : Bytes) (is : reserved_name.run ts �
 
   -- it says neither version
   pub says_no_version : ((s : Syntax) → text ≡ name_of s → ⊥)
-      → Fails (Here error.UnknownSyntax) ts (version.run ts)
-      ⊎ Unsaid of_version ts (Here error.UnknownSyntax) ts (version.run ts)
+      → Fails (Fault error.UnknownSyntax) ts (version.run ts)
+      ⊎ Unsaid of_version ts (Fault error.UnknownSyntax) ts (version.run ts)
   unfolding version
   says_no_version other =
       let x = text_read ts us text is in
@@ -242,8 +241,8 @@ module _ (ts us : Rest Lexeme Place) (text : Bytes) (is : reserved_name.run ts �
       says SaysPath path_of path-to path-from ts us x.0 x.1 text (x.2, h)
 
   pub says_no_path : (fault : PathError) → path_fault text ≡ Some fault → (IsProtoPath text → ⊥)
-      → Fails (Here (error.BadImportPath fault)) ts (path.run ts)
-      ⊎ Unsaid of_path ts (Here (error.BadImportPath fault)) ts (path.run ts)
+      → Fails (Fault (error.BadImportPath fault)) ts (path.run ts)
+      ⊎ Unsaid of_path ts (Fault (error.BadImportPath fault)) ts (path.run ts)
   unfolding path
   says_no_path fault its other =
       let x = text_read ts us text is in

@@ -3,11 +3,11 @@
 use Rattle.std.proofs.Common.{◌≡◌, ℕ, List, [], ◌∷◌, Bool, true, false, ◌||◌, cond, codes, drop}
 use Rattle.std.proofs.Common.{refl, sym, ◌∙◌, Option, Some, Result, Ok, Err}
 use Rattle.std.proofs.lemmas.Bool.{or_parts}
-use Rattle.protobuf_parse_base.specs.Relations.{somes}
-use Rattle.protobuf_parse_base.specs.Readers.{Rest, end, token, Read, read, bind, starts}
-use Rattle.protobuf_parse_base.specs.Readers.{starts-append}
-use Rattle.protobuf_parse_base.specs.Combinators.{run_many}
-use Rattle.protobuf_parse_base.specs.Conditions.{mark_of}
+use Rattle.protobuf_parse_grammar.specs.Relations.{somes}
+use Rattle.protobuf_parse_grammar.specs.Readers.{Rest, end, token, Read, read, bind, starts}
+use Rattle.protobuf_parse_grammar.specs.Readers.{starts-append}
+use Rattle.protobuf_parse_grammar.specs.Combinators.{run_many}
+use Rattle.protobuf_parse_grammar.specs.Conditions.{mark_of}
 use Rattle.protobuf_parse_lexer.specs.Text.{Bytes}
 use Rattle.protobuf_parse_lexer.specs.Tokens.{Lexeme}
 use Rattle.protobuf_parse_lexer.specs.Classes.{word, words}
@@ -184,10 +184,10 @@ module _ (w : Bytes) (ws : List Bytes) (ts : Rest Lexeme Place)
   rest_no = (or_parts (says w ts) (starts lexicon (words ws) ts) neither).1
 
 -- a field, where no statement of another kind begins
-pub message_plain : (s : Syntax) (n : ℕ) (ts : Rest Lexeme Place)
+pub message_normal : (s : Syntax) (n : ℕ) (ts : Rest Lexeme Place)
     → starts lexicon (words statement_words) ts ≡ false
     → (nest.message_statement s n).low.run ts ≡ made tree.message_field ((nest.field s n).run ts)
-message_plain s n ts h =
+message_normal s n ts h =
     let behind = λ (k : ℕ). drop k statement_words in
     let a = rest_no (codes "reserved") (behind 1) ts h in
     let b = rest_no (codes "oneof") (behind 2) ts a in

@@ -2,10 +2,10 @@
 -- none.
 use Rattle.std.proofs.Common.{◌≡◌, List, [], ◌∷◌, Option, Some, None, Bool, true, false, ◌||◌, cond}
 use Rattle.std.proofs.Common.{is_some, bytes_eq, refl, sym, ap, ◌∙◌}
-use Rattle.protobuf_parse_base.specs.Readers.{Rest, end, token, read, starts}
-use Rattle.protobuf_parse_base.specs.Relations.{seen}
-use Rattle.protobuf_parse_base.specs.Combinators.{taken}
-use Rattle.protobuf_parse_base.specs.Readers.{starts-append}
+use Rattle.protobuf_parse_grammar.specs.Readers.{Rest, end, token, read, starts}
+use Rattle.protobuf_parse_grammar.specs.Relations.{seen}
+use Rattle.protobuf_parse_grammar.specs.Combinators.{taken}
+use Rattle.protobuf_parse_grammar.specs.Readers.{starts-append}
 use Rattle.protobuf_parse_lexer.specs.Text.{Bytes}
 use Rattle.protobuf_parse_lexer.specs.Tokens.{Lexeme}
 use Rattle.protobuf_parse_lexer.specs.Classes.{Class, symbol, word, ident, integer, float, text}

@@ -3,12 +3,12 @@ use Rattle.std.proofs.Common.{◌≡◌, ℕ, List, [], ◌∷◌, ◌++◌, ◌
 use Rattle.std.proofs.Common.{Result, Ok, Err, String, Global, string_bytes, refl, sym, ap, ◌∙◌}
 use Rattle.std.proofs.Common.{inl, inr, append_assoc}
 use Rattle.std.proofs.lemmas.List.{append-nil}
-use Rattle.protobuf_parse_base.specs.Readers.{Rest, onto, onto-append, Read, read}
-use Rattle.protobuf_parse_base.specs.Readers.{wrong, bind, Shape, shape}
-use Rattle.protobuf_parse_base.specs.Combinators.{then_shape}
-use Rattle.protobuf_parse_base.specs.Readers.{Sound, Reader, starts, all_apart-law}
-use Rattle.protobuf_parse_base.specs.Combinators.{◌>>◌}
-use Rattle.protobuf_parse_base.specs.Whole.{local_wrong}
+use Rattle.protobuf_parse_grammar.specs.Readers.{Rest, onto, onto-append, Read, read}
+use Rattle.protobuf_parse_grammar.specs.Readers.{wrong, bind, Shape, shape}
+use Rattle.protobuf_parse_grammar.specs.Combinators.{then_shape}
+use Rattle.protobuf_parse_grammar.specs.Readers.{Sound, Reader, starts, all_apart-law}
+use Rattle.protobuf_parse_grammar.specs.Combinators.{◌>>◌}
+use Rattle.protobuf_parse_grammar.specs.Whole.{local_wrong}
 use Rattle.protobuf_parse_lexer.specs.Text.{Bytes}
 use Rattle.protobuf_parse_lexer.specs.Tokens.{Lexeme}
 use Rattle.protobuf_parse_lexer.specs.Classes.{Class, symbol as symbol_class}
@@ -28,8 +28,7 @@ use Rattle.protobuf_parse_syntax.specs.Trees.{ReservedSyntax}
 use Rattle.protobuf_parse_syntax.specs.declared.tree.ImportVis.{ImportVis}
 use Rattle.protobuf_parse_syntax.specs.declared.tree.Syntax.{Syntax}
 use Rattle.protobuf_parse_syntax.specs.declared.parser.refusal.Refusal.{Refusal}
-use Rattle.protobuf_parse_syntax.specs.declared.parser.refusal.Refusal.TheVariants.{Memory, Next}
-use Rattle.protobuf_parse_syntax.specs.declared.parser.refusal.Refusal.TheVariants.{Here}
+use Rattle.protobuf_parse_syntax.specs.declared.parser.refusal.Refusal.TheVariants.{Memory, Fault}
 
 -- ---- more tokens before
 
@@ -63,12 +62,13 @@ module _ {Y : Type 0} {R : List Lexeme → Y → Type 0} {s : Shape Class}
   pub fails_from_first : (e : Refusal) (ts after : Rest Lexeme Place) → Fails e after (p.run ts)
       → Fails e after ((from_first p).run ts)
   fails_from_first Memory ts after h = tt
-  fails_from_first (Next e) ts after h = (ap (wrong_from ts) h.0, h.1)
-  fails_from_first (Here e) ts after (f, is, inl h) =
-      (too_deep, ap (wrong_from ts) (is ∙ ap failed h.1), inl (h.0, refl))
-  fails_from_first (Here e) ts after (f, is, inr h) =
+  fails_from_first (Fault e) ts after (inl h) = inl (ap (wrong_from ts) h.0, h.1)
+  fails_from_first (Fault e) ts after (inr (f, is, inl h)) =
+      inr (too_deep, ap (wrong_from ts) (is ∙ ap failed h.1), inl (h.0, refl))
+  fails_from_first (Fault e) ts after (inr (f, is, inr h)) =
       let w : p.run ts ≡ wrong (onto h.0 after) = is ∙ ap failed h.1 in
-      let l = local_wrong p ts (onto h.0 after) w in (
+      let l = local_wrong p ts (onto h.0 after) w in
+      inr (
         off ts,
         ap (wrong_from ts) w,
         inr (
@@ -80,10 +80,10 @@ module _ {Y : Type 0} {R : List Lexeme → Y → Type 0} {s : Shape Class}
 
   -- it fails behind the tokens that it begins with
   pub fails_behind : (x : ParserError) (e : Refusal) (ts us after rest : Rest Lexeme Place)
-      (used : List Lexeme) → e ≡ Here x → after ≡ us → ts ≡ onto used us → p.run ts ≡ wrong rest
+      (used : List Lexeme) → e ≡ Fault x → after ≡ us → ts ≡ onto used us → p.run ts ≡ wrong rest
       → Says x used us → Fails e after ((from_first p).run ts)
   fails_behind x e ts us after rest used is here parts w says =
-      rw (is, here) (off ts, ap (wrong_from ts) w, inr (used, ap off parts, says))
+      rw (is, here) (inr (off ts, ap (wrong_from ts) w, inr (used, ap off parts, says)))
 
 -- ---- tokens that are no strings
 
@@ -262,7 +262,7 @@ module _ (e : Refusal) (ts us vs after : Rest Lexeme Place)
   fails_said (inr (x, inr told, here, stands, w, says)) =
       let w' : parse.syntax_parts.run ts ≡ wrong vs = rw (is, equals, w) refl in
       inr (
-        here ∙ ap Here told,
+        here ∙ ap Fault told,
         ap (wrong_from ts) w',
         (
           syntaxes.used,

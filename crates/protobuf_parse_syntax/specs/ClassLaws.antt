@@ -4,9 +4,9 @@ use Rattle.std.proofs.Common.{◌≡◌, ℕ, List, [], ◌∷◌, Bool, true, f
 use Rattle.std.proofs.Common.{bytes_eq, eq-eqb, refl, sym, ◌∙◌, subst}
 use Rattle.std.proofs.lemmas.Bool.{eqb-true}
 use Rattle.std.proofs.lemmas.Slice.Eq.{bytes_eq-Decides}
-use Rattle.protobuf_parse_base.specs.Readers.{Lexicon, and_left, and_right, false_by}
-use Rattle.protobuf_parse_base.specs.Relations.{seen}
-use Rattle.protobuf_parse_base.specs.Readers.{not_true}
+use Rattle.protobuf_parse_grammar.specs.Readers.{Lexicon, and_left, and_right, false_by}
+use Rattle.protobuf_parse_grammar.specs.Relations.{seen}
+use Rattle.protobuf_parse_grammar.specs.Readers.{not_true}
 use Rattle.protobuf_parse_lexer.specs.Text.{Bytes}
 use Rattle.protobuf_parse_lexer.specs.Tokens.{Lexeme}
 use Rattle.protobuf_parse_lexer.specs.Classes.{Class, symbol, word, ident, integer, float, text}

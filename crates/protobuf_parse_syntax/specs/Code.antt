@@ -3,12 +3,12 @@
 use Rattle.std.specs.Prelude.{◌≡◌, ◌⊎◌, ℕ, Bool, true, false, Option, Some, None, List, [], ◌∷◌}
 use Rattle.std.specs.Prelude.{◌++◌, Result, Ok, Err}
 use Rattle.std.specs.Option.{option_to_list}
-use Rattle.std.proofs.Common.{ap, ◌∙◌, refl}
+use Rattle.std.proofs.Common.{ap, ◌∙◌, refl, inl, inr}
 use Rattle.protobuf_parse_base.specs.Characters as char
-use Rattle.protobuf_parse_base.specs.Readers.{Rest, end, token, onto, Read, read, stuck, wrong}
-use Rattle.protobuf_parse_base.specs.Readers.{deep, bind}
-use Rattle.protobuf_parse_base.specs.Relations.{Many}
-use Rattle.protobuf_parse_base.specs.Whole.{whole}
+use Rattle.protobuf_parse_grammar.specs.Readers.{Rest, end, token, onto, Read, read, stuck, wrong}
+use Rattle.protobuf_parse_grammar.specs.Readers.{deep, bind}
+use Rattle.protobuf_parse_grammar.specs.Relations.{Many}
+use Rattle.protobuf_parse_grammar.specs.Whole.{whole}
 use Rattle.protobuf_parse_base.specs.declared.proto_path.error.PathError.{PathError}
 use Rattle.protobuf_parse_lexer.specs.Text.{Bytes, seen_by}
 use Rattle.protobuf_parse_lexer.specs.AheadViews.{lies_ahead}
@@ -30,8 +30,7 @@ use Rattle.protobuf_parse_syntax.specs.Parsing.{EndsWithImport, EndsWithNoString
 use Rattle.protobuf_parse_syntax.specs.Parsing.{IsEarlierOption, ListFront, IsGrammarFault}
 use Rattle.protobuf_parse_syntax.specs.Productions as parse
 use Rattle.protobuf_parse_syntax.specs.declared.parser.refusal.Refusal.{Refusal}
-use Rattle.protobuf_parse_syntax.specs.declared.parser.refusal.Refusal.TheVariants.{Memory, Next}
-use Rattle.protobuf_parse_syntax.specs.declared.parser.refusal.Refusal.TheVariants.{Here}
+use Rattle.protobuf_parse_syntax.specs.declared.parser.refusal.Refusal.TheVariants.{Memory, Fault}
 use Rattle.protobuf_parse_syntax.specs.declared.parser.cursor.Cursor.{Cursor}
 
 -- the tokens that are left, and the place of the end
@@ -139,8 +138,9 @@ Tells e after f =
 -- part that begins there, and why.
 abbrev pub Fails : {Y : Type 0} → Refusal → Rest Lexeme Place → Read Lexeme Place Y → Type 0
 Fails Memory after r = Unit {0}
-Fails (Next e) after r = (r ≡ stuck after) × Stands e after
-Fails (Here e) after r = (f : Failure) × (r ≡ failed f) × Tells e after f
+Fails (Fault e) after r =
+    ((r ≡ stuck after) × Stands e after)
+    ⊎ ((f : Failure) × (r ≡ failed f) × Tells e after f)
 
 -- What a function returned, seen by view, is what was read, and the cursor stands behind it or at
 -- the fault, unless memory ran out.
@@ -180,7 +180,7 @@ GivesOr P view (Err e) after r = Fails e after r ⊎ P e after r
 -- The string that comes first says nothing: it has one of these faults.
 abbrev pub Unsaid : (ParserError → Type 0) → Rest Lexeme Place → {Y : Type 0} → Refusal
     → Rest Lexeme Place → Read Lexeme Place Y → Type 0
-Unsaid faults before e after r = (x : ParserError) × faults x × (e ≡ Here x) × (after ≡ before)
+Unsaid faults before e after r = (x : ParserError) × faults x × (e ≡ Fault x) × (after ≡ before)
     × (r ≡ wrong before) × SaysNot x before
 
 -- the faults of a string of which the text, the version or the path is wanted
@@ -196,19 +196,19 @@ of_path x = (x ≡ error.StrLitDecode) ⊎ ((p : PathError) × (x ≡ error.BadI
 -- The string of the `syntax` that comes first says no version.
 abbrev pub NoVersion : Rest Lexeme Place → {Y : Type 0} → Refusal → Rest Lexeme Place
     → Read Lexeme Place Y → Type 0
-NoVersion before e after r = (e ≡ Here error.UnknownSyntax) × (r ≡ wrong before)
+NoVersion before e after r = (e ≡ Fault error.UnknownSyntax) × (r ≡ wrong before)
     × ((used : List Lexeme) × (before ≡ onto used after) × SyntaxHead used tt
     × SaysNot error.UnknownSyntax after)
 
 -- behind a dot comes a part too many
 abbrev pub TooMany : {Y : Type 0} → Refusal → Rest Lexeme Place → Read Lexeme Place Y → Type 0
-TooMany e after r = (e ≡ Here error.OptionNameTooLong) × (r ≡ wrong after)
+TooMany e after r = (e ≡ Fault error.OptionNameTooLong) × (r ≡ wrong after)
     × (begins_part after ≡ true)
 
 -- The option's name that comes first has more than a hundred parts.
 abbrev pub LongName : Rest Lexeme Place → {Y : Type 0} → Refusal → Rest Lexeme Place
     → Read Lexeme Place Y → Type 0
-LongName before e after r = (e ≡ Here error.OptionNameTooLong) × (r ≡ wrong before)
+LongName before e after r = (e ≡ Fault error.OptionNameTooLong) × (r ≡ wrong before)
     × ((used : List Lexeme) × (before ≡ onto used after) × HundredParts used
     × (begins_part after ≡ true))
 
@@ -216,7 +216,7 @@ LongName before e after r = (e ≡ Here error.OptionNameTooLong) × (r ≡ wrong
 -- hundred parts.
 abbrev pub LongBehind : (List Lexeme → Type 0) → Rest Lexeme Place → {Y : Type 0} → Refusal
     → Rest Lexeme Place → Read Lexeme Place Y → Type 0
-LongBehind Front before e after r = (e ≡ Here error.OptionNameTooLong)
+LongBehind Front before e after r = (e ≡ Fault error.OptionNameTooLong)
     × ((start : Rest Lexeme Place) × (r ≡ wrong start))
     × ((front : List Lexeme) × (name : List Lexeme) × (before ≡ onto front (onto name after))
     × Front front × HundredParts name × (begins_part after ≡ true))
@@ -234,8 +234,8 @@ IsListFront n ts = (earlier : List OptionSyntax) × ListFront n ts earlier
 -- what a string's error is to the parser
 abbrev pub refusal_of : StrLitDecodeError → Refusal
 refusal_of decoding.Memory = Memory
-refusal_of decoding.BadEscape = Here error.StrLitDecode
-refusal_of decoding.NotUtf8 = Here error.StrLitDecode
+refusal_of decoding.BadEscape = Fault error.StrLitDecode
+refusal_of decoding.NotUtf8 = Fault error.StrLitDecode
 
 -- ---- what fails first fails
 
@@ -248,23 +248,22 @@ failed_bind too_deep g = refl
 pub fails_first : {Y Z : Type 0} (e : Refusal) (after : Rest Lexeme Place) (r : Read Lexeme Place Y)
     (g : Y → Rest Lexeme Place → Read Lexeme Place Z) → Fails e after r → Fails e after (bind r g)
 fails_first Memory after r g h = tt
-fails_first {Y = Y} (Next e) after r g h = (ap (λ (x : Read Lexeme Place Y). bind x g) h.0, h.1)
-fails_first {Y = Y} (Here e) after r g h =
-    (h.0, ap (λ (x : Read Lexeme Place Y). bind x g) h.1 ∙ failed_bind h.0 g, h.2)
+fails_first {Y = Y} (Fault e) after r g (inl h) =
+    inl (ap (λ (x : Read Lexeme Place Y). bind x g) h.0, h.1)
+fails_first {Y = Y} (Fault e) after r g (inr h) =
+    inr (h.0, ap (λ (x : Read Lexeme Place Y). bind x g) h.1 ∙ failed_bind h.0 g, h.2)
 
 -- ---- the file
 
 -- what a refusal says of the tokens, where the next one, or the end, stands at `next`
 abbrev pub RefusesFile : List Lexeme → Place → Refusal → Place → Type 0
 RefusesFile ts last Memory next = Unit {0}
-RefusesFile ts last (Next e) next = IsGrammarFault ts last e next
-RefusesFile ts last (Here e) next = IsGrammarFault ts last e next
+RefusesFile ts last (Fault e) next = IsGrammarFault ts last e next
 
 -- the error of a refusal, where the next token stands at this place
 abbrev pub error_at : Refusal → Place → ParserErrorWithLocation
 error_at Memory next = out_of_memory
-error_at (Next e) next = located_at e next
-error_at (Here e) next = located_at e next
+error_at (Fault e) next = located_at e next
 
 -- the error says of these tokens what cannot stand there
 abbrev pub IsFaultOfTokens : Stream → ParserErrorWithLocation → Type 0

@@ -2,9 +2,9 @@
 -- Readers of types and fields whose parts have so many levels, and what one level more reads.
 use Rattle.std.proofs.Common.{◌≡◌, ℕ, suc, ◌≤◌, ◌-◌, List, [], ◌∷◌, Option, None, false, codes}
 use Rattle.std.proofs.Common.{refl, ap, ◌∙◌, arith}
-use Rattle.protobuf_parse_base.specs.Readers.{Rest, Read, read, deep, bind, nested, starts}
-use Rattle.protobuf_parse_base.specs.Readers.{starts-append}
-use Rattle.protobuf_parse_base.specs.Pairs.{both, none-le, level-zero, level-suc}
+use Rattle.protobuf_parse_grammar.specs.Readers.{Rest, Read, read, deep, bind, nested, starts}
+use Rattle.protobuf_parse_grammar.specs.Readers.{starts-append}
+use Rattle.protobuf_parse_grammar.specs.Pairs.{both, none-le, level-zero, level-suc}
 use Rattle.protobuf_parse_lexer.specs.Text.{Bytes}
 use Rattle.protobuf_parse_lexer.specs.Tokens.{Lexeme}
 use Rattle.protobuf_parse_lexer.specs.Classes.{Class, word as word_class, words}
@@ -60,7 +60,7 @@ map_in n = (map_of (both (type_ n))).low
 pub least : (n : ℕ) → 0 ≤ n
 least n = omega arith
 
--- a plain field of n levels, or a group with fields of j levels
+-- a normal field of n levels, or a group with fields of j levels
 abbrev pub after_label_in : (s : Syntax) (n j : ℕ) (place : Place) (label : Option Label)
     → Parts (AfterLabel n (IsField s j) place label)
     (AfterLabel (suc n) (IsField s (suc j)) place label) after_label_shape 0

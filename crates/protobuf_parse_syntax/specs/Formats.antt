@@ -21,7 +21,7 @@ abbrev pub truth_word : Bool → Bytes
 truth_word true = codes "true"
 truth_word false = codes "false"
 
--- in brackets, or plain
+-- in brackets, or direct
 abbrev pub name_text : ConstantNameSyntax → Bytes
 name_text (regular_name n) = n
 name_text (extension_name n) = codes "[" ++ n ++ codes "]"

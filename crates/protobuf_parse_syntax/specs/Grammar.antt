@@ -7,10 +7,10 @@
 use Rattle.std.specs.Prelude.{◌≤◌, ℕ, zero, suc, ℤ, pos, negsuc, nat_le, ◌&&◌, List, [], ◌∷◌, ◌++◌}
 use Rattle.std.specs.Prelude.{length, slice_index, Option, Some, None, Bool, true, false, cond}
 use Rattle.std.specs.Prelude.{bytes_eq, codes}
-use Rattle.protobuf_parse_base.specs.Relations.{Rel, Nothing, Such, Never, Level, One, Either, Many}
-use Rattle.protobuf_parse_base.specs.Relations.{OneOrMore, Separated, Unless, At, somes, ◌>>=◌}
-use Rattle.protobuf_parse_base.specs.Relations.{◌>>◌}
-use Rattle.protobuf_parse_base.specs.Relations.{AtSomeDepth}
+use Rattle.protobuf_parse_grammar.specs.Relations.{Rel, Nothing, Such, Never, Level, One, Either, Many}
+use Rattle.protobuf_parse_grammar.specs.Relations.{OneOrMore, Separated, Unless, At, somes, ◌>>=◌}
+use Rattle.protobuf_parse_grammar.specs.Relations.{◌>>◌}
+use Rattle.protobuf_parse_grammar.specs.Relations.{AtSomeDepth}
 use Rattle.protobuf_parse_base.specs.Paths.{IsProtoPath}
 use Rattle.protobuf_parse_lexer.specs.Text.{Bytes}
 use Rattle.protobuf_parse_base.specs.Characters as char
@@ -271,7 +271,7 @@ IsOptionPart =
       IsSymbol char.close_paren
       Nothing (tree.extension name))
 
--- An option name of one plain part is built in, any other is custom.
+-- An option name of one direct part is built in, any other is custom.
 abbrev pub option_name : OptionPartSyntax → List OptionPartSyntax → OptionNameSyntax
 option_name (tree.direct name) [] = tree.builtin name
 option_name part parts = tree.custom (part ∷ parts)
@@ -377,9 +377,9 @@ abbrev pub capital_ident : Lexeme → Option Bytes
 capital_ident t = cond (is_capital (slice_index t.text 0)) (any_ident t) None
 
 -- a field of such a type
-unfoldable pub PlainFieldOf :
+unfoldable pub NormalFieldOf :
     ℕ → Rel Lexeme TypeSyntax → Place → Option Label → Rel Lexeme FieldStatementSyntax
-PlainFieldOf n T place label = do
+NormalFieldOf n T place label = do
   type_ ← T
   name ← IsIdent
   IsSymbol char.equals
@@ -418,7 +418,7 @@ unfoldable pub AfterLabel :
 AfterLabel n F place label =
     Either
     (GroupOf F place label)
-    (PlainFieldOf n (Unless (is_one_of (words (codes "group" ∷ []))) (IsType n)) place label)
+    (NormalFieldOf n (Unless (is_one_of (words (codes "group" ∷ []))) (IsType n)) place label)
 
 -- A field of a message, a group or an `extend`. A label word that begins a field is its label. In
 -- proto2 every field has a label, unless it begins with `map`.
@@ -426,7 +426,7 @@ unfoldable pub FieldOf :
     Syntax → ℕ → Rel Lexeme FieldStatementSyntax → Rel Lexeme FieldStatementSyntax
 FieldOf Proto2 n F = At place_of λ place.
     Either (do l ← IsWordOf labels; AfterLabel (suc n) F place (Some l))
-    (PlainFieldOf (suc n) (MapOf (IsType n)) place None)
+    (NormalFieldOf (suc n) (MapOf (IsType n)) place None)
 FieldOf Proto3 n F = At place_of λ place.
     Either (do l ← IsWordOf labels3; AfterLabel (suc n) F place (Some l))
     (Unless (is_one_of (words (table_words labels ++ statement_words)))

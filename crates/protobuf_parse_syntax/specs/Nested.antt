@@ -3,12 +3,12 @@
 use Rattle.std.proofs.Common.{◌≡◌, ℕ, suc, ◌≤◌, List, [], ◌∷◌, ◌++◌, None, true}
 use Rattle.std.proofs.Common.{false, codes, refl, ap, ◌∙◌, ◌-◌, arith}
 use Rattle.protobuf_parse_base.specs.Characters as char
-use Rattle.protobuf_parse_base.specs.Readers.{Rest, deep, Shape, nested}
-use Rattle.protobuf_parse_base.specs.Depth.{Near}
-use Rattle.protobuf_parse_base.specs.Pairs.{same, less, give, behind, choose, shaped}
-use Rattle.protobuf_parse_base.specs.Pairs.{unless, at, both, none-le, level, level-zero}
-use Rattle.protobuf_parse_base.specs.Pairs.{level-suc, levels}
-use Rattle.protobuf_parse_base.specs.Pairs.{◌>>=◌, ◌>>◌}
+use Rattle.protobuf_parse_grammar.specs.Readers.{Rest, deep, Shape, nested}
+use Rattle.protobuf_parse_grammar.specs.Depth.{Near}
+use Rattle.protobuf_parse_grammar.specs.Pairs.{same, less, give, behind, choose, shaped}
+use Rattle.protobuf_parse_grammar.specs.Pairs.{unless, at, both, none-le, level, level-zero}
+use Rattle.protobuf_parse_grammar.specs.Pairs.{level-suc, levels}
+use Rattle.protobuf_parse_grammar.specs.Pairs.{◌>>=◌, ◌>>◌}
 use Rattle.protobuf_parse_lexer.specs.Text.{Bytes}
 use Rattle.protobuf_parse_lexer.specs.Tokens.{Lexeme}
 use Rattle.protobuf_parse_lexer.specs.Classes.{Class, symbol as symbol_class, word as word_class}
@@ -36,7 +36,7 @@ use Rattle.protobuf_parse_syntax.specs.Grammar.{IsFileOf}
 use Rattle.protobuf_parse_syntax.specs.declared.tree.Syntax.{Syntax}
 use Rattle.protobuf_parse_syntax.specs.declared.tree.Syntax.TheVariants.{Proto2, Proto3}
 unfoldable pub use Rattle.protobuf_parse_syntax.specs.NestedFields.{option_item, option_items}
-unfoldable pub use Rattle.protobuf_parse_syntax.specs.NestedFields.{after_type_parts, plain_field}
+unfoldable pub use Rattle.protobuf_parse_syntax.specs.NestedFields.{after_type_parts, normal_field}
 unfoldable pub use Rattle.protobuf_parse_syntax.specs.NestedFields.{field_item_of, field_items_of}
 unfoldable pub use Rattle.protobuf_parse_syntax.specs.NestedFields.{field_block_of, group_of}
 unfoldable pub use Rattle.protobuf_parse_syntax.specs.NestedFields.{after_label, value_of}
@@ -130,7 +130,7 @@ oneof_pair s n = shaped (nested (word_class (codes "oneof") ∷ []) false []) (a
 pub oneof-same : (s : Syntax) (n : ℕ) (ts : Rest Lexeme Place)
     → (oneof_pair s n).high.run ts ≡ (oneof_pair s (suc n)).low.run ts
 unfolding oneof_pair oneof_items oneof_item oneof_statement oneof_field after_label group_of
-    field_block_of field_items_of field_item_of plain_field
+    field_block_of field_items_of field_item_of normal_field
     after_type_parts
 oneof-same Proto2 n ts = refl
 oneof-same Proto3 n ts = refl

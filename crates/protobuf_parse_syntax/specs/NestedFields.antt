@@ -3,17 +3,17 @@
 use Rattle.std.proofs.Common.{◌≡◌, ℕ, suc, ◌≤◌, List, [], ◌∷◌, ◌++◌, Option, Some, None, true}
 use Rattle.std.proofs.Common.{false, codes, refl, ap, ◌∙◌, ◌-◌, arith}
 use Rattle.protobuf_parse_base.specs.Characters as char
-use Rattle.protobuf_parse_base.specs.Relations.{Rel, Then, Either, Many, Unless, Separated}
-use Rattle.protobuf_parse_base.specs.Relations.{somes, Nothing}
-use Rattle.protobuf_parse_base.specs.Readers.{Rest, deep, read, Shape, nested, shape}
-use Rattle.protobuf_parse_base.specs.Loops.{with_rest}
-use Rattle.protobuf_parse_base.specs.Combinators.{then_shape}
-use Rattle.protobuf_parse_base.specs.Combinators.{either_shape, many_shape, run_many}
-use Rattle.protobuf_parse_base.specs.Relations as relation
-use Rattle.protobuf_parse_base.specs.Depth.{Near}
-use Rattle.protobuf_parse_base.specs.Pairs.{Pair, same, less, give, behind, choose, many, shaped}
-use Rattle.protobuf_parse_base.specs.Pairs.{unless, separated, at, both, none-le, level, level-zero}
-use Rattle.protobuf_parse_base.specs.Pairs.{level-suc, levels, ◌>>=◌, ◌>>◌}
+use Rattle.protobuf_parse_grammar.specs.Relations.{Rel, Then, Either, Many, Unless, Separated}
+use Rattle.protobuf_parse_grammar.specs.Relations.{somes, Nothing}
+use Rattle.protobuf_parse_grammar.specs.Readers.{Rest, deep, read, Shape, nested, shape}
+use Rattle.protobuf_parse_grammar.specs.Loops.{with_rest}
+use Rattle.protobuf_parse_grammar.specs.Combinators.{then_shape}
+use Rattle.protobuf_parse_grammar.specs.Combinators.{either_shape, many_shape, run_many}
+use Rattle.protobuf_parse_grammar.specs.Relations as relation
+use Rattle.protobuf_parse_grammar.specs.Depth.{Near}
+use Rattle.protobuf_parse_grammar.specs.Pairs.{Pair, same, less, give, behind, choose, many, shaped}
+use Rattle.protobuf_parse_grammar.specs.Pairs.{unless, separated, at, both, none-le, level, level-zero}
+use Rattle.protobuf_parse_grammar.specs.Pairs.{level-suc, levels, ◌>>=◌, ◌>>◌}
 use Rattle.protobuf_parse_lexer.specs.Tokens.{Lexeme}
 use Rattle.protobuf_parse_lexer.specs.Classes.{Class, symbol as symbol_class, word as word_class}
 use Rattle.protobuf_parse_lexer.specs.Classes.{ident as ident_class, integer, text, words}
@@ -33,7 +33,7 @@ use Rattle.protobuf_parse_syntax.specs.Grammar.{labels3, scalars, statement_word
 use Rattle.protobuf_parse_syntax.specs.Grammar.{Braced, ConstantFieldOf, MessageConstantOf, ListOf}
 use Rattle.protobuf_parse_syntax.specs.Grammar.{ConstantOf, IsConstant, MapOf, TypeOf, IsType}
 use Rattle.protobuf_parse_syntax.specs.Grammar.{IsComma, IsAssignment, IsOption, AreOptions}
-use Rattle.protobuf_parse_syntax.specs.Grammar.{PlainFieldOf, GroupOf, AfterLabel, FieldOf, IsField}
+use Rattle.protobuf_parse_syntax.specs.Grammar.{NormalFieldOf, GroupOf, AfterLabel, FieldOf, IsField}
 use Rattle.protobuf_parse_syntax.specs.Grammar.{IsIdent, IsFieldNumber}
 use Rattle.protobuf_parse_syntax.specs.declared.tree.Syntax.{Syntax}
 use Rattle.protobuf_parse_syntax.specs.declared.tree.Syntax.TheVariants.{Proto2, Proto3}
@@ -405,21 +405,21 @@ abbrev pub after_type : (n : ℕ) (place : Place) (label : Option Label) (type_ 
     (field_shape (ident_class [] ∷ [])) n
 after_type n place label type_ = from_start (after_type_parts n place label type_)
 
-unfoldable pub plain_field : (n : ℕ) (place : Place) (label : Option Label)
-    → Parts (PlainFieldOf n (Unless (is_one_of (words (codes "group" ∷ []))) (IsType n)) place
-    label) (PlainFieldOf (suc n) (Unless (is_one_of (words (codes "group" ∷ []))) (IsType (suc n)))
+unfoldable pub normal_field : (n : ℕ) (place : Place) (label : Option Label)
+    → Parts (NormalFieldOf n (Unless (is_one_of (words (codes "group" ∷ []))) (IsType n)) place
+    label) (NormalFieldOf (suc n) (Unless (is_one_of (words (codes "group" ∷ []))) (IsType (suc n)))
     place label) (field_shape (symbol_class char.dot ∷ ident_class (codes "group" ∷ []) ∷ [])) n
-unfolding PlainFieldOf
-plain_field n place label =
+unfolding NormalFieldOf
+normal_field n place label =
     shaped (field_shape (symbol_class char.dot ∷ ident_class (codes "group" ∷ []) ∷ [])) (do
       type_ ← unless (words (codes "group" ∷ [])) (types n) refl
       after_type n place label type_) refl
 
 unfoldable pub map_field : (n : ℕ) (place : Place)
-    → Parts (PlainFieldOf (suc n) (MapOf (IsType n)) place None)
-    (PlainFieldOf (suc (suc n)) (MapOf (IsType (suc n))) place None)
+    → Parts (NormalFieldOf (suc n) (MapOf (IsType n)) place None)
+    (NormalFieldOf (suc (suc n)) (MapOf (IsType (suc n))) place None)
     (field_shape (word_class (codes "map") ∷ [])) (suc n)
-unfolding PlainFieldOf
+unfolding NormalFieldOf
 map_field n place = shaped (field_shape (word_class (codes "map") ∷ [])) (do
   type_ ← map_of (types n)
   after_type (suc n) place None type_) refl
@@ -493,7 +493,7 @@ group_of s place label p =
 abbrev pub after_label_shape : Shape Class
 after_label_shape = field_shape (symbol_class char.dot ∷ ident_class [] ∷ [])
 
--- a plain field of n levels, or a group with fields of j levels
+-- a normal field of n levels, or a group with fields of j levels
 unfoldable pub after_label : (s : Syntax) {R R' : List Lexeme → FieldStatementSyntax → Type 0}
     (n j k : ℕ) → k ≤ n → k ≤ suc j → (place : Place) (label : Option Label)
     → Parts R R' (field_shape (field_firsts s)) j
@@ -502,7 +502,7 @@ unfolding AfterLabel
 after_label s n j k h i place label p =
     shaped after_label_shape
     (choose (less (suc j) k i (group_of s place label p)) refl
-    (less n k h (plain_field n place label))) refl
+    (less n k h (normal_field n place label))) refl
 
 pub up : (k n : ℕ) → k ≤ n → suc k ≤ suc n
 up k n h = omega (arith, h)
@@ -535,7 +535,7 @@ abbrev pub field : (s : Syntax) (n : ℕ) → Parses (IsField s n) (field_shape 
 field s = level refl (field_of s)
 
 pub near_field : (s : Syntax) (n : ℕ) → Near n (field s n).run (field s (suc n)).run
-unfolding field_of after_label group_of field_block_of field_items_of field_item_of plain_field
+unfolding field_of after_label group_of field_block_of field_items_of field_item_of normal_field
     map_field after_type_parts map_of
 near_field Proto2 = levels refl (field_of Proto2) (λ n k h R R' t ts. refl)
     (λ n k h R R' t ts. refl)

@@ -3,8 +3,8 @@ use Rattle.std.specs.Prelude.{◌≡◌, ◌<◌, ◌⊎◌, ℕ, List, [], ◌�
 use Rattle.std.specs.Prelude.{codes}
 use Rattle.std.specs.Prelude.{Result, MatchResult}
 use Rattle.protobuf_parse_base.specs.Paths.{path_fault}
-use Rattle.protobuf_parse_base.specs.Relations.{Rel, Many, Nothing, BeginsOtherwise, StopsAt}
-use Rattle.protobuf_parse_base.specs.Relations.{◌>>=◌, ◌>>◌}
+use Rattle.protobuf_parse_grammar.specs.Relations.{Rel, Many, Nothing, BeginsOtherwise, StopsAt}
+use Rattle.protobuf_parse_grammar.specs.Relations.{◌>>=◌, ◌>>◌}
 use Rattle.protobuf_parse_lexer.specs.Text.{Bytes}
 use Rattle.protobuf_parse_base.specs.Characters as char
 use Rattle.protobuf_parse_lexer.specs.Tokens.{Lexeme}

@@ -5,19 +5,19 @@ use Rattle.std.proofs.Common.{Bool, true, false, ◌||◌, cond, bytes_eq, slice
 use Rattle.std.proofs.Common.{sym, ap, ◌∙◌}
 use Rattle.std.proofs.lemmas.List.{append-nil}
 use Rattle.protobuf_parse_base.specs.Characters as char
-use Rattle.protobuf_parse_base.specs.Relations.{Rel, Then, Nothing, Either, One, Separated}
-use Rattle.protobuf_parse_base.specs.Restrictions.{Meant}
-use Rattle.protobuf_parse_base.specs.Relations.{Unless}
-use Rattle.protobuf_parse_base.specs.Readers.{Rest, end, token, read, bind, starts}
-use Rattle.protobuf_parse_base.specs.Combinators.{run_many}
-use Rattle.protobuf_parse_base.specs.Readers.{Reader, Shape, shape}
-use Rattle.protobuf_parse_base.specs.Relations.{seen}
-use Rattle.protobuf_parse_base.specs.Combinators.{then_shape, give, one}
-use Rattle.protobuf_parse_base.specs.Readers.{or_true}
-use Rattle.protobuf_parse_base.specs.Combinators.{choose, many, shaped, ◌>>=◌, ◌>>◌}
-use Rattle.protobuf_parse_base.specs.Readers.{all_apart-law}
-use Rattle.protobuf_parse_base.specs.Conditions.{at, one_or_more, separated, unless, meant}
-use Rattle.protobuf_parse_base.specs.Loops.{with_rest}
+use Rattle.protobuf_parse_grammar.specs.Relations.{Rel, Then, Nothing, Either, One, Separated}
+use Rattle.protobuf_parse_grammar.specs.Restrictions.{Meant}
+use Rattle.protobuf_parse_grammar.specs.Relations.{Unless}
+use Rattle.protobuf_parse_grammar.specs.Readers.{Rest, end, token, read, bind, starts}
+use Rattle.protobuf_parse_grammar.specs.Combinators.{run_many}
+use Rattle.protobuf_parse_grammar.specs.Readers.{Reader, Shape, shape}
+use Rattle.protobuf_parse_grammar.specs.Relations.{seen}
+use Rattle.protobuf_parse_grammar.specs.Combinators.{then_shape, give, one}
+use Rattle.protobuf_parse_grammar.specs.Readers.{or_true}
+use Rattle.protobuf_parse_grammar.specs.Combinators.{choose, many, shaped, ◌>>=◌, ◌>>◌}
+use Rattle.protobuf_parse_grammar.specs.Readers.{all_apart-law}
+use Rattle.protobuf_parse_grammar.specs.Conditions.{at, one_or_more, separated, unless, meant}
+use Rattle.protobuf_parse_grammar.specs.Loops.{with_rest}
 use Rattle.protobuf_parse_lexer.specs.Text.{Bytes}
 use Rattle.protobuf_parse_lexer.specs.Tokens.{Lexeme}
 use Rattle.protobuf_parse_lexer.specs.Classes.{Class, sees, symbol as symbol_class}

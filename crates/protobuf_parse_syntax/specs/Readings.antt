@@ -5,17 +5,17 @@
 use Rattle.std.proofs.Common.{◌≡◌, ◌≤◌, ℕ, suc, List, [], ◌∷◌, ◌++◌, length, Option, Some, Bool}
 use Rattle.std.proofs.Common.{true, false, cond, refl, sym, ap, subst, ◌∙◌, inl, inr, arith}
 use Rattle.std.proofs.lemmas.List.{append-nil}
-use Rattle.protobuf_parse_base.specs.Relations.{Rel, Nothing, Such, Never, Either, Many, none, more}
-use Rattle.protobuf_parse_base.specs.Relations.{◌>>=◌}
-use Rattle.protobuf_parse_base.specs.Restrictions.{Meant}
-use Rattle.protobuf_parse_base.specs.Readers.{Rest, end, token, onto, Read, read, stuck, wrong}
-use Rattle.protobuf_parse_base.specs.Readers.{Lexicon, Shape, shape, Sound, Reader, LocalAt}
-use Rattle.protobuf_parse_base.specs.Readers.{LocalStuck, starts, deep}
-use Rattle.protobuf_parse_base.specs.Combinators.{run_choose, choose-local}
-use Rattle.protobuf_parse_base.specs.Readers.{begins-starts, stuck_not_read}
-use Rattle.protobuf_parse_base.specs.Conditions.{meant}
-use Rattle.protobuf_parse_base.specs.Depth.{Near, NearAt, near-choose, near_same}
-use Rattle.protobuf_parse_base.specs.Pairs.{Pair}
+use Rattle.protobuf_parse_grammar.specs.Relations.{Rel, Nothing, Such, Never, Either, Many, none, more}
+use Rattle.protobuf_parse_grammar.specs.Relations.{◌>>=◌}
+use Rattle.protobuf_parse_grammar.specs.Restrictions.{Meant}
+use Rattle.protobuf_parse_grammar.specs.Readers.{Rest, end, token, onto, Read, read, stuck, wrong}
+use Rattle.protobuf_parse_grammar.specs.Readers.{Lexicon, Shape, shape, Sound, Reader, LocalAt}
+use Rattle.protobuf_parse_grammar.specs.Readers.{LocalStuck, starts, deep}
+use Rattle.protobuf_parse_grammar.specs.Combinators.{run_choose, choose-local}
+use Rattle.protobuf_parse_grammar.specs.Readers.{begins-starts, stuck_not_read}
+use Rattle.protobuf_parse_grammar.specs.Conditions.{meant}
+use Rattle.protobuf_parse_grammar.specs.Depth.{Near, NearAt, near-choose, near_same}
+use Rattle.protobuf_parse_grammar.specs.Pairs.{Pair}
 
 pub never-sound : {Tok Mark A : Type 0} (ts : Rest Tok Mark) (a : A) (rest : Rest Tok Mark)
     → (let r : Read Tok Mark A = stuck ts in r ≡ read a rest) → Sound Never ts a rest

@@ -67,7 +67,7 @@ pieces_of s = map string_bytes s.pieces.items
 
 -- ---- constants
 
--- the name of a field in a message constant: plain, or in brackets the name of an extension or a
+-- the name of a field in a message constant: direct, or in brackets the name of an extension or a
 -- type URL
 pub data ConstantNameSyntax : Type 0 where
   regular_name : Bytes → ConstantNameSyntax
@@ -128,7 +128,7 @@ constant_syntax =
 
 -- ---- options
 
--- a part of an option's name: plain, or the name of an extension, which stands in parentheses
+-- a part of an option's name: direct, or the name of an extension, which stands in parentheses
 pub data OptionPartSyntax : Type 0 where
   direct : Bytes → OptionPartSyntax
   extension : Bytes → OptionPartSyntax

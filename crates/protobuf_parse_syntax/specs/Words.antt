@@ -1,8 +1,8 @@
 -- No public clause rests on this file.
 -- What functions say of the next token's word.
 use Rattle.std.specs.Prelude.{◌≡◌, Bool, true, false, Option, Some, None, List}
-use Rattle.protobuf_parse_base.specs.Readers.{Rest, end, token, read, starts}
-use Rattle.protobuf_parse_base.specs.Relations.{seen}
+use Rattle.protobuf_parse_grammar.specs.Readers.{Rest, end, token, read, starts}
+use Rattle.protobuf_parse_grammar.specs.Relations.{seen}
 use Rattle.protobuf_parse_lexer.specs.Text.{Bytes}
 use Rattle.protobuf_parse_lexer.specs.Tokens.{Lexeme}
 use Rattle.protobuf_parse_lexer.specs.Classes.{Class, sees_at, words}

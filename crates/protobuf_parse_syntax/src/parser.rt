@@ -101,5 +101,5 @@ fn tree_of(alloc: Global, tokens: Tokenizer<'_>) -> Result<FileTree, ParserError
     if left.is_empty() && end.line > 0 {
         return Ok(tree);
     }
-    Err(Refusal::Next(ParserError::IncorrectInput).located(end))
+    Err(Refusal::Fault(ParserError::IncorrectInput).located(end))
 }

@@ -2,8 +2,8 @@
 
 ghost use Rattle.std.specs.Prelude.{◌≡◌, ◌≤◌, ◌∷◌, [], map, string_bytes, pos};
 ghost use Rattle.protobuf_parse_base.specs.Characters as char;
-ghost use Rattle.protobuf_parse_base.specs.Readers.{starts};
-ghost use Rattle.protobuf_parse_base.specs.Pairs.{both};
+ghost use Rattle.protobuf_parse_grammar.specs.Readers.{starts};
+ghost use Rattle.protobuf_parse_grammar.specs.Pairs.{both};
 ghost use Rattle.protobuf_parse_lexer.specs.Classes as class;
 ghost use Rattle.protobuf_parse_syntax.specs.ClassLaws.{lexicon};
 ghost use Rattle.protobuf_parse_syntax.specs.Grammar as grammar;
@@ -32,7 +32,7 @@ pub fn constant(
         ((nest.constant levels).run (left tokens.old)) }
 {
     if levels == 0 {
-        return Err(Refusal::Here(ParserError::NestingTooDeep));
+        return Err(Refusal::Fault(ParserError::NestingTooDeep));
     }
     constant_of(alloc, tokens, levels - 1)
 }
@@ -63,7 +63,7 @@ fn constant_of(
     if tokens.sees_str() {
         return Ok(ProtobufConstant::String(string(alloc, tokens)?));
     }
-    Err(Refusal::Next(constant_fault(tokens)))
+    Err(Refusal::Fault(constant_fault(tokens)))
 }
 
 /// Why no constant begins with the next token.
@@ -139,10 +139,10 @@ fn plus(tokens: &mut Cursor<'_>) -> Result<u64, Refusal>
     ensures { Gives pos result (left tokens.new) (read.plus.run (left tokens.old)) }
 {
     if !tokens.sees_symbol('+') {
-        return Err(Refusal::Next(ParserError::IncorrectInput));
+        return Err(Refusal::Fault(ParserError::IncorrectInput));
     }
     if tokens.sees_float_second() {
-        return Err(Refusal::Here(ParserError::FloatConstant));
+        return Err(Refusal::Fault(ParserError::FloatConstant));
     }
     tokens.symbol('+')?;
     Ok(tokens.number()?)
@@ -154,10 +154,10 @@ fn minus(tokens: &mut Cursor<'_>) -> Result<i64, Refusal>
     ensures { Gives (λ n. n) result (left tokens.new) (read.minus.run (left tokens.old)) }
 {
     if !tokens.sees_symbol('-') {
-        return Err(Refusal::Next(ParserError::IncorrectInput));
+        return Err(Refusal::Fault(ParserError::IncorrectInput));
     }
     if tokens.sees_float_second() {
-        return Err(Refusal::Here(ParserError::FloatConstant));
+        return Err(Refusal::Fault(ParserError::FloatConstant));
     }
     tokens.symbol('-')?;
     let number = tokens.number_up_to(1 << 63)?;
@@ -192,7 +192,7 @@ fn list(alloc: Global, tokens: &mut Cursor<'_>, levels: usize) -> Result<Protobu
         return Ok(ProtobufConstant::List(items));
     }
     if !tokens.sees_symbol(']') {
-        return Err(Refusal::Next(constant_fault(tokens)));
+        return Err(Refusal::Fault(constant_fault(tokens)));
     }
     tokens.symbol(']')?;
     Ok(ProtobufConstant::List(Vec::new(alloc)))
@@ -288,7 +288,7 @@ fn field_value(
         return constant(alloc, tokens, levels);
     }
     if !tokens.sees_symbol('{') {
-        return Err(Refusal::Next(ParserError::IncorrectInput));
+        return Err(Refusal::Fault(ParserError::IncorrectInput));
     }
     constant(alloc, tokens, levels)
 }

@@ -2,9 +2,9 @@
 
 ghost use Rattle.std.specs.Prelude.{◌≡◌, ◌≤◌, ◌∷◌, []};
 ghost use Rattle.protobuf_parse_base.specs.DeclaredNames.{name_bytes};
-ghost use Rattle.protobuf_parse_base.specs.Whole.{whole};
-ghost use Rattle.protobuf_parse_base.specs.Readers.{starts};
-ghost use Rattle.protobuf_parse_base.specs.Conditions.{mark_of};
+ghost use Rattle.protobuf_parse_grammar.specs.Whole.{whole};
+ghost use Rattle.protobuf_parse_grammar.specs.Readers.{starts};
+ghost use Rattle.protobuf_parse_grammar.specs.Conditions.{mark_of};
 ghost use Rattle.protobuf_parse_lexer.specs.Ahead.{behind};
 ghost use Rattle.protobuf_parse_lexer.specs.AheadViews.{lies_ahead};
 ghost use Rattle.protobuf_parse_lexer.specs.Classes as class;
@@ -64,7 +64,7 @@ impl<'text> Cursor<'text> {
     }
 
     /// Whether this symbol comes next.
-    #[tactic(auto, unfolding(protobuf_parse_base::specs::Readers::starts))]
+    #[tactic(auto, unfolding(protobuf_parse_grammar::specs::Readers::starts))]
     pub fn sees_symbol(&self, symbol: char) -> bool
         ensures { result ≡ starts lexicon (class.symbol symbol ∷ []) (left self.now) }
     {
@@ -96,12 +96,12 @@ impl<'text> Cursor<'text> {
                 self.advance();
                 Ok(())
             }
-            _ => Err(Refusal::Next(fault)),
+            _ => Err(Refusal::Fault(fault)),
         }
     }
 
     /// Whether this word comes next.
-    #[tactic(auto, unfolding(protobuf_parse_base::specs::Readers::starts))]
+    #[tactic(auto, unfolding(protobuf_parse_grammar::specs::Readers::starts))]
     pub fn sees_word(&self, word: &str) -> bool
         ensures { result ≡ starts lexicon (class.word word.now ∷ []) (left self.now) }
     {
@@ -122,12 +122,12 @@ impl<'text> Cursor<'text> {
                 self.advance();
                 Ok(())
             }
-            _ => Err(Refusal::Next(ParserError::IncorrectInput)),
+            _ => Err(Refusal::Fault(ParserError::IncorrectInput)),
         }
     }
 
     /// Whether an identifier, which may be any word, comes next.
-    #[tactic(auto, unfolding(protobuf_parse_base::specs::Readers::starts))]
+    #[tactic(auto, unfolding(protobuf_parse_grammar::specs::Readers::starts))]
     pub fn sees_ident(&self) -> bool
         ensures { result ≡ starts lexicon (class.ident [] ∷ []) (left self.now) }
     {
@@ -164,7 +164,7 @@ impl<'text> Cursor<'text> {
                 self.advance();
                 Ok(token.text)
             }
-            _ => Err(Refusal::Next(ParserError::IncorrectInput)),
+            _ => Err(Refusal::Fault(ParserError::IncorrectInput)),
         }
     }
 
@@ -189,15 +189,15 @@ impl<'text> Cursor<'text> {
                 if !bytes.is_empty() && bytes[0].is_ascii_uppercase() {
                     self.ident_name(alloc)
                 } else {
-                    Err(Refusal::Next(ParserError::GroupNameShouldStartWithUpperCase))
+                    Err(Refusal::Fault(ParserError::GroupNameShouldStartWithUpperCase))
                 }
             }
-            None => Err(Refusal::Next(ParserError::IncorrectInput)),
+            None => Err(Refusal::Fault(ParserError::IncorrectInput)),
         }
     }
 
     /// Whether an integer comes next.
-    #[tactic(auto, unfolding(protobuf_parse_base::specs::Readers::starts))]
+    #[tactic(auto, unfolding(protobuf_parse_grammar::specs::Readers::starts))]
     pub fn sees_integer(&self) -> bool
         ensures { result ≡ starts lexicon (class.integer ∷ []) (left self.now) }
     {
@@ -217,9 +217,9 @@ impl<'text> Cursor<'text> {
                     self.advance();
                     Ok(number)
                 }
-                _ => Err(Refusal::Next(ParserError::IncorrectInput)),
+                _ => Err(Refusal::Fault(ParserError::IncorrectInput)),
             },
-            None => Err(Refusal::Next(ParserError::IncorrectInput)),
+            None => Err(Refusal::Fault(ParserError::IncorrectInput)),
         }
     }
 
@@ -233,14 +233,14 @@ impl<'text> Cursor<'text> {
             Some(token) => match token.kind {
                 TokenKind::Integer(number) => {
                     if number > limit {
-                        return Err(Refusal::Next(ParserError::IntegerOverflow));
+                        return Err(Refusal::Fault(ParserError::IntegerOverflow));
                     }
                     self.advance();
                     Ok(number)
                 }
-                _ => Err(Refusal::Next(ParserError::IncorrectInput)),
+                _ => Err(Refusal::Fault(ParserError::IncorrectInput)),
             },
-            None => Err(Refusal::Next(ParserError::IncorrectInput)),
+            None => Err(Refusal::Fault(ParserError::IncorrectInput)),
         }
     }
 
@@ -255,7 +255,7 @@ impl<'text> Cursor<'text> {
     }
 
     /// Whether a string comes next.
-    #[tactic(auto, unfolding(protobuf_parse_base::specs::Readers::starts))]
+    #[tactic(auto, unfolding(protobuf_parse_grammar::specs::Readers::starts))]
     pub fn sees_str(&self) -> bool
         ensures { result ≡ starts lexicon (class.text ∷ []) (left self.now) }
     {
@@ -275,12 +275,12 @@ impl<'text> Cursor<'text> {
                 self.advance();
                 Ok(unquoted(token.text))
             }
-            _ => Err(Refusal::Next(ParserError::IncorrectInput)),
+            _ => Err(Refusal::Fault(ParserError::IncorrectInput)),
         }
     }
 
     /// Whether a float comes next.
-    #[tactic(auto, unfolding(protobuf_parse_base::specs::Readers::starts))]
+    #[tactic(auto, unfolding(protobuf_parse_grammar::specs::Readers::starts))]
     pub fn sees_float(&self) -> bool
         ensures { result ≡ starts lexicon (class.float ∷ []) (left self.now) }
     {

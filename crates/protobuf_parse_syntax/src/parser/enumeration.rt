@@ -2,7 +2,7 @@
 
 ghost use Rattle.std.specs.Prelude.{◌≡◌, map, string_bytes};
 ghost use Rattle.protobuf_parse_base.specs.DeclaredNames.{name_bytes};
-ghost use Rattle.protobuf_parse_base.specs.Readers.{starts};
+ghost use Rattle.protobuf_parse_grammar.specs.Readers.{starts};
 ghost use Rattle.protobuf_parse_lexer.specs.Text.{seen_by};
 ghost use Rattle.protobuf_parse_syntax.specs.ClassLaws.{lexicon};
 ghost use Rattle.protobuf_parse_syntax.specs.Productions as read;
@@ -64,7 +64,7 @@ fn enum_statements(
 }
 
 /// Whether a statement of an enum, or a semicolon, comes next.
-#[tactic(auto, unfolding(protobuf_parse_base::specs::Readers::starts))]
+#[tactic(auto, unfolding(protobuf_parse_grammar::specs::Readers::starts))]
 fn begins_enum_item(tokens: &Cursor<'_>) -> bool
     ensures { result ≡ starts lexicon nest.enum_firsts (left tokens.now) }
 {
@@ -131,13 +131,13 @@ fn value_name(alloc: Global, tokens: &mut Cursor<'_>) -> Result<Name, Refusal>
     ensures { Gives name_bytes result (left tokens.new) (read.value_name.run (left tokens.old)) }
 {
     if begins_other_statement(tokens) {
-        return Err(Refusal::Next(ParserError::IncorrectInput));
+        return Err(Refusal::Fault(ParserError::IncorrectInput));
     }
     tokens.ident_name(alloc)
 }
 
 /// Whether `reserved` or `option` comes next.
-#[tactic(auto, unfolding(protobuf_parse_base::specs::Readers::starts))]
+#[tactic(auto, unfolding(protobuf_parse_grammar::specs::Readers::starts))]
 fn begins_other_statement(tokens: &Cursor<'_>) -> bool
     ensures { result ≡ starts lexicon read.other_statements (left tokens.now) }
 {

@@ -1,11 +1,11 @@
 //! Fields, groups and types.
 //!
-//! What reads a plain field stands in its callers (`#[inline(always)]`), so that a result of 112
+//! What reads a normal field stands in its callers (`#[inline(always)]`), so that a result of 112
 //! bytes is not handed up from call to call; what is rare is kept out of them, so that its room is
 //! not cleared for each field: docs/PERFORMANCE.md.
 
 ghost use Rattle.std.specs.Prelude.{◌≡◌, suc, false, map};
-ghost use Rattle.protobuf_parse_base.specs.Readers.{starts};
+ghost use Rattle.protobuf_parse_grammar.specs.Readers.{starts};
 ghost use Rattle.protobuf_parse_lexer.specs.Text.{seen_by};
 ghost use Rattle.protobuf_parse_syntax.specs.ClassLaws.{lexicon};
 ghost use Rattle.protobuf_parse_syntax.specs.Grammar as grammar;
@@ -45,7 +45,7 @@ pub fn field(
         ((nest.field syntax levels).run (left tokens.old)) }
 {
     if levels == 0 {
-        return Err(Refusal::Here(ParserError::NestingTooDeep));
+        return Err(Refusal::Fault(ParserError::NestingTooDeep));
     }
     field_of(alloc, tokens, syntax, levels, levels - 1)
 }
@@ -67,7 +67,7 @@ fn field_of(
         ((field_in syntax inner).run (left tokens.old)) }
 {
     if !begins_field(tokens, syntax) {
-        return Err(Refusal::Next(field_fault(tokens, syntax)));
+        return Err(Refusal::Fault(field_fault(tokens, syntax)));
     }
     let place = tokens.place();
     let label = label(tokens, syntax);
@@ -105,7 +105,7 @@ pub fn oneof_field(
         ((nest.oneof_field syntax levels).low.run (left tokens.old)) }
 {
     if begins_no_oneof_field(tokens) {
-        return Err(Refusal::Next(oneof_fault(tokens)));
+        return Err(Refusal::Fault(oneof_fault(tokens)));
     }
     let place = tokens.place();
     after_label(alloc, tokens, syntax, levels, levels, place, None)
@@ -132,7 +132,7 @@ fn after_label(
         let group = group(alloc, tokens, syntax, inner, place, label)?;
         Ok(FieldStatement::Group(group))
     } else {
-        plain_field(alloc, tokens, levels, place, label)
+        normal_field(alloc, tokens, levels, place, label)
     }
 }
 
@@ -241,8 +241,8 @@ fn field_item(
 
 /// `type ident "=" int [ options ] ";"`, where the word `group` does not come next.
 #[inline(always)]
-#[tactic(auto, unfolding(crate::specs::Nested::plain_field), using(crate::specs::Code::fails_first))]
-fn plain_field(
+#[tactic(auto, unfolding(crate::specs::Nested::normal_field), using(crate::specs::Code::fails_first))]
+fn normal_field(
     alloc: Global,
     tokens: &mut Cursor<'_>,
     levels: usize,
@@ -251,7 +251,7 @@ fn plain_field(
 ) -> Result<FieldStatement, Refusal>
     requires { starts lexicon group_firsts (left tokens.old) ≡ false }
     ensures { Gives view.field_statement_syntax result (left tokens.new)
-        ((nest.plain_field levels place label).low.run (left tokens.old)) }
+        ((nest.normal_field levels place label).low.run (left tokens.old)) }
 {
     let type_ = field_type(alloc, tokens, levels)?;
     after_type(alloc, tokens, levels, place, label, type_)
@@ -276,7 +276,7 @@ fn map_field(
 
 /// What follows the type of a field: `ident "=" int [ options ] ";"`
 #[inline(always)]
-#[tactic(auto, unfolding(crate::specs::Nested::after_type_parts), using(crate::specs::Code::fails_first, crate::proofs::FieldViews::views_plain))]
+#[tactic(auto, unfolding(crate::specs::Nested::after_type_parts), using(crate::specs::Code::fails_first, crate::proofs::FieldViews::views_normal))]
 fn after_type(
     alloc: Global,
     tokens: &mut Cursor<'_>,
@@ -312,7 +312,7 @@ fn field_type(alloc: Global, tokens: &mut Cursor<'_>, levels: usize) -> Result<T
         ((nest.type_ levels).run (left tokens.old)) }
 {
     if levels == 0 {
-        return Err(Refusal::Here(ParserError::NestingTooDeep));
+        return Err(Refusal::Fault(ParserError::NestingTooDeep));
     }
     type_of(alloc, tokens, levels - 1)
 }

@@ -64,7 +64,7 @@ fn said(alloc: Global, tokens: &mut Cursor<'_>) -> Result<Syntax, Refusal>
         "proto3" => Ok(Syntax::Proto3),
         _ => {
             *tokens = before;
-            Err(Refusal::Here(ParserError::UnknownSyntax))
+            Err(Refusal::Fault(ParserError::UnknownSyntax))
         }
     }
 }
@@ -179,7 +179,7 @@ fn path(alloc: Global, tokens: &mut Cursor<'_>) -> Result<ProtoPathBuf, Refusal>
         Ok(path) => Ok(path),
         Err(fault) => {
             *tokens = before;
-            Err(Refusal::Here(ParserError::BadImportPath(fault)))
+            Err(Refusal::Fault(ParserError::BadImportPath(fault)))
         }
     }
 }

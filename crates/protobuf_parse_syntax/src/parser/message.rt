@@ -34,7 +34,7 @@ pub fn message(
         ((nest.message syntax levels).run (left tokens.old)) }
 {
     if levels == 0 {
-        return Err(Refusal::Here(ParserError::NestingTooDeep));
+        return Err(Refusal::Fault(ParserError::NestingTooDeep));
     }
     message_of(alloc, tokens, syntax, levels - 1)
 }

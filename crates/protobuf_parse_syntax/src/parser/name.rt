@@ -86,14 +86,14 @@ pub fn text(alloc: Global, tokens: &mut Cursor<'_>) -> Result<String, Refusal>
     ensures { GivesOr (Unsaid of_text (left tokens.old)) string_bytes result (left tokens.new)
         (read.reserved_name.run (left tokens.old)) }
 {
-    match plain_text(tokens) {
+    match text_as_written(tokens) {
         Some(text) => Ok(String::from_str(alloc, text)?),
         None => decoded_text(alloc, tokens),
     }
 }
 
 /// The text that a string of one token without escapes stands for, as most are.
-fn plain_text<'text>(tokens: &mut Cursor<'text>) -> Option<&'text str>
+fn text_as_written<'text>(tokens: &mut Cursor<'text>) -> Option<&'text str>
     ensures { GivesSome (λ z. z.now) result (left tokens.old) (left tokens.new)
         (read.reserved_name.run (left tokens.old)) }
 {
@@ -131,7 +131,7 @@ fn no_text(error: StrLitDecodeError) -> Refusal
     match error {
         StrLitDecodeError::Memory => Refusal::Memory,
         StrLitDecodeError::BadEscape | StrLitDecodeError::NotUtf8 => {
-            Refusal::Here(ParserError::StrLitDecode)
+            Refusal::Fault(ParserError::StrLitDecode)
         }
     }
 }

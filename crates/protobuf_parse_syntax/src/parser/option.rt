@@ -2,8 +2,8 @@
 
 ghost use Rattle.std.specs.Prelude.{◌≡◌, ◌∷◌, [], map, codes};
 ghost use Rattle.protobuf_parse_base.specs.Characters as char;
-ghost use Rattle.protobuf_parse_base.specs.Readers.{starts};
-ghost use Rattle.protobuf_parse_base.specs.Combinators.{with_first};
+ghost use Rattle.protobuf_parse_grammar.specs.Readers.{starts};
+ghost use Rattle.protobuf_parse_grammar.specs.Combinators.{with_first};
 ghost use Rattle.protobuf_parse_lexer.specs.Classes as class;
 ghost use Rattle.protobuf_parse_lexer.specs.Text.{seen_by};
 ghost use Rattle.protobuf_parse_syntax.specs.ClassLaws.{lexicon};
@@ -192,14 +192,14 @@ fn no_more_parts(tokens: &mut Cursor<'_>) -> Result<(), Refusal>
     let before = *tokens;
     tokens.symbol('.')?;
     if begins_option_part(tokens) {
-        return Err(Refusal::Here(ParserError::OptionNameTooLong));
+        return Err(Refusal::Fault(ParserError::OptionNameTooLong));
     }
     *tokens = before;
-    Err(Refusal::Next(ParserError::IncorrectInput))
+    Err(Refusal::Fault(ParserError::IncorrectInput))
 }
 
 /// Whether a part of an option's name comes next.
-#[tactic(auto, unfolding(protobuf_parse_base::specs::Readers::starts))]
+#[tactic(auto, unfolding(protobuf_parse_grammar::specs::Readers::starts))]
 fn begins_option_part(tokens: &Cursor<'_>) -> bool
     ensures { result ≡ begins_part (left tokens.now) }
 {

@@ -10,10 +10,9 @@ use std::alloc::{AllocError, AllocFailed};
 #[derive(Clone, Copy)]
 pub enum Refusal {
     Memory,
-    /// What stands next, a token or the end of the text, cannot stand there.
-    Next(ParserError),
-    /// The part that begins with the next token has this fault, and not that token alone.
-    Here(ParserError),
+    /// What stands next, a token or the end of the text, cannot stand there, or the part that
+    /// begins there has this fault.
+    Fault(ParserError),
 }
 
 impl From<AllocError> for Refusal {
@@ -41,7 +40,7 @@ impl Refusal {
     {
         match self {
             Refusal::Memory => AllocError.into(),
-            Refusal::Next(error) | Refusal::Here(error) => ParserErrorWithLocation {
+            Refusal::Fault(error) => ParserErrorWithLocation {
                 error,
                 line: next.line,
                 col: next.col,

@@ -5,7 +5,7 @@
 
 ghost use Rattle.std.specs.Prelude.{◌≡◌, ◌∷◌, take, drop};
 ghost use Rattle.protobuf_parse_base.specs.Characters as char;
-ghost use Rattle.protobuf_parse_base.specs.Readers.{starts};
+ghost use Rattle.protobuf_parse_grammar.specs.Readers.{starts};
 ghost use Rattle.protobuf_parse_lexer.specs.Classes as class;
 ghost use Rattle.protobuf_parse_syntax.specs.ClassLaws.{lexicon};
 ghost use Rattle.protobuf_parse_syntax.specs.Words.{takes};

@@ -1,12 +1,12 @@
 use Rattle.std.proofs.Common.{◌≡◌, ◌⊎◌, ℕ, arith, ap, sym, subst, ◌∙◌, inl, inr}
-use Rattle.protobuf_parse_base.specs.Readers.{read}
+use Rattle.protobuf_parse_grammar.specs.Readers.{read}
 use Rattle.protobuf_parse_lexer.specs.AheadViews.{lies_ahead}
 use Rattle.protobuf_parse_lexer.specs.declared.error.ParserError.TheVariants.{IncorrectInput}
 use Rattle.protobuf_parse_lexer.specs.declared.lexer.token.Place.{Place}
 use Rattle.protobuf_parse_syntax.specs.Trees.{file_syntax}
 use Rattle.protobuf_parse_syntax.specs.Nested as nest
 use Rattle.protobuf_parse_syntax.specs.Code.{left, Fails, NoVersion, RefusesFile}
-use Rattle.protobuf_parse_syntax.specs.declared.parser.refusal.Refusal.TheVariants.{Next}
+use Rattle.protobuf_parse_syntax.specs.declared.parser.refusal.Refusal.TheVariants.{Fault}
 use Rattle.protobuf_parse_syntax.proofs.File.{found, only, ends_there, leftover, refused, told_or}
 use Rattle.protobuf_parse_syntax.proofs.Levels.{enough_levels}
 use Rattle.protobuf_parse_syntax.proofs.parser.tree_of.Goals as goal
@@ -60,8 +60,8 @@ returns-clause-refused c =
           (left c.file.new.tokens) h (sym c.is_empty.ensures ∙ w.if-is_empty.true) in
           inr (inl (omega (arith, w.if-end-gt0.false, ap (λ (p : Place). p.line) there)))
       | else-is_empty-via-else-is_empty w ↦
-          told_or s.tokens s.end (Next IncorrectInput) c.place-end.result c.located-2.result
-          (subst (λ v. RefusesFile s.tokens s.end (Next IncorrectInput) v)
+          told_or s.tokens s.end (Fault IncorrectInput) c.place-end.result c.located-2.result
+          (subst (λ v. RefusesFile s.tokens s.end (Fault IncorrectInput) v)
           (sym c.place-end.ensures)
           (leftover s.tokens s.end 101 (file_syntax c.in-Ok.tree)
           (left c.file.new.tokens) h (sym c.is_empty.ensures ∙ w.if-is_empty.false)))

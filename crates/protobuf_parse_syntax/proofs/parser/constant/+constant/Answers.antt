@@ -1,8 +1,8 @@
 use Rattle.std.proofs.Common.{List, map, refl, sym, ◌∙◌}
 use Rattle.std.proofs.lemmas.Result.{err_from_is_err_and}
-use Rattle.protobuf_parse_base.specs.Combinators.{shorter}
-use Rattle.protobuf_parse_base.specs.Pairs.{both}
-use Rattle.protobuf_parse_base.specs.Loops.{shows_themselves, goes_on, stops_here}
+use Rattle.protobuf_parse_grammar.specs.Combinators.{shorter}
+use Rattle.protobuf_parse_grammar.specs.Pairs.{both}
+use Rattle.protobuf_parse_grammar.specs.Loops.{shows_themselves, goes_on, stops_here}
 use Rattle.protobuf_parse_syntax.specs.Trees.{ConstantFieldSyntax, constant_syntax}
 use Rattle.protobuf_parse_syntax.specs.InnerViews.{constant_field_syntax}
 use Rattle.protobuf_parse_syntax.specs.Nested as nest

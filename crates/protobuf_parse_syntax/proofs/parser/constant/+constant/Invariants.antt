@@ -1,8 +1,8 @@
 use Rattle.std.proofs.Common.{◌≡◌, List, map, ◌+◌, ◌*◌}
-use Rattle.protobuf_parse_base.specs.Pairs.{both}
-use Rattle.protobuf_parse_base.specs.Readers.{size}
-use Rattle.protobuf_parse_base.specs.Combinators.{run_many}
-use Rattle.protobuf_parse_base.specs.Loops.{with_rest}
+use Rattle.protobuf_parse_grammar.specs.Pairs.{both}
+use Rattle.protobuf_parse_grammar.specs.Readers.{size}
+use Rattle.protobuf_parse_grammar.specs.Combinators.{run_many}
+use Rattle.protobuf_parse_grammar.specs.Loops.{with_rest}
 use Rattle.protobuf_parse_syntax.specs.Trees.{ConstantFieldSyntax, constant_syntax}
 use Rattle.protobuf_parse_syntax.specs.InnerViews.{constant_field_syntax}
 use Rattle.protobuf_parse_syntax.specs.Nested as nest

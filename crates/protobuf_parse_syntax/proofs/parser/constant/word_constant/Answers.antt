@@ -1,5 +1,5 @@
 use Rattle.std.proofs.Common.{◌≡◌, sym, ap, ◌∙◌, string_bytes}
-use Rattle.protobuf_parse_base.specs.Readers.{read}
+use Rattle.protobuf_parse_grammar.specs.Readers.{read}
 use Rattle.protobuf_parse_syntax.specs.Trees as tree
 use Rattle.protobuf_parse_syntax.specs.Productions.{word_constant_name}
 use Rattle.protobuf_parse_syntax.specs.Code.{left}

@@ -1,8 +1,8 @@
 use Rattle.std.proofs.Common.{◌≡◌, List, ◌++◌, ◌∷◌, [], map, string_bytes, inl, refl, sym, ap, ◌∙◌}
 use Rattle.std.proofs.lemmas.List.{map_push}
 use Rattle.std.proofs.lemmas.Result.{err_from_is_err_and}
-use Rattle.protobuf_parse_base.specs.Combinators.{run_many, shorter}
-use Rattle.protobuf_parse_base.specs.Loops.{with_rest, shows_themselves, goes_on, stops_here}
+use Rattle.protobuf_parse_grammar.specs.Combinators.{run_many, shorter}
+use Rattle.protobuf_parse_grammar.specs.Loops.{with_rest, shows_themselves, goes_on, stops_here}
 use Rattle.protobuf_parse_lexer.specs.Text.{Bytes}
 use Rattle.protobuf_parse_syntax.specs.Productions as read
 use Rattle.protobuf_parse_syntax.specs.Productions.{names_first}

@@ -1,8 +1,8 @@
 use Rattle.std.proofs.Common.{◌≡◌, List, ◌++◌, ◌∷◌, [], map, refl, sym, ap, ◌∙◌}
 use Rattle.std.proofs.lemmas.List.{map_push}
 use Rattle.std.proofs.lemmas.Result.{err_from_is_err_and}
-use Rattle.protobuf_parse_base.specs.Combinators.{run_many, shorter}
-use Rattle.protobuf_parse_base.specs.Loops.{with_rest, shows_themselves, goes_on, stops_here}
+use Rattle.protobuf_parse_grammar.specs.Combinators.{run_many, shorter}
+use Rattle.protobuf_parse_grammar.specs.Loops.{with_rest, shows_themselves, goes_on, stops_here}
 use Rattle.protobuf_parse_syntax.specs.Trees.{RangeSyntax, range_syntax}
 use Rattle.protobuf_parse_syntax.specs.Productions as read
 use Rattle.protobuf_parse_syntax.specs.Productions.{ranges_first}

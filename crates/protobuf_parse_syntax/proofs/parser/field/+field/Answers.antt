@@ -1,9 +1,9 @@
 use Rattle.std.proofs.Common.{◌≡◌, List, [], map, not, is_some, false, refl, sym, ap, ◌∙◌, subst}
 use Rattle.std.proofs.lemmas.Bool.{false≢true}
 use Rattle.std.proofs.lemmas.Result.{err_from_is_err_and}
-use Rattle.protobuf_parse_base.specs.Relations.{somes}
-use Rattle.protobuf_parse_base.specs.Combinators.{shorter, run_many}
-use Rattle.protobuf_parse_base.specs.Loops.{with_rest, shows_somes, goes_on, stops_here}
+use Rattle.protobuf_parse_grammar.specs.Relations.{somes}
+use Rattle.protobuf_parse_grammar.specs.Combinators.{shorter, run_many}
+use Rattle.protobuf_parse_grammar.specs.Loops.{with_rest, shows_somes, goes_on, stops_here}
 use Rattle.protobuf_parse_lexer.specs.Text.{seen_by}
 use Rattle.protobuf_parse_syntax.specs.Trees.{FieldStatementSyntax, field_statement_syntax}
 use Rattle.protobuf_parse_syntax.specs.Nested as nest

@@ -1,8 +1,8 @@
 use Rattle.std.proofs.Common.{List, map, refl, sym, ◌∙◌}
 use Rattle.std.proofs.lemmas.Result.{err_from_is_err_and}
-use Rattle.protobuf_parse_base.specs.Relations.{somes}
-use Rattle.protobuf_parse_base.specs.Combinators.{shorter}
-use Rattle.protobuf_parse_base.specs.Loops.{shows_somes, goes_on, stops_here}
+use Rattle.protobuf_parse_grammar.specs.Relations.{somes}
+use Rattle.protobuf_parse_grammar.specs.Combinators.{shorter}
+use Rattle.protobuf_parse_grammar.specs.Loops.{shows_somes, goes_on, stops_here}
 use Rattle.protobuf_parse_lexer.specs.Text.{seen_by}
 use Rattle.protobuf_parse_syntax.specs.Trees.{statement_syntax, StatementSyntax}
 use Rattle.protobuf_parse_syntax.specs.Nested as nest

@@ -1,9 +1,9 @@
-use Rattle.std.proofs.Common.{◌≡◌, List, map, None, false, codes, refl, inl, sym, ◌∙◌, arith}
+use Rattle.std.proofs.Common.{◌≡◌, List, map, None, false, codes, refl, inl, inr, sym, ◌∙◌, arith}
 use Rattle.std.proofs.lemmas.List.{append-nil}
 use Rattle.std.proofs.lemmas.Result.{err_from_is_err_and}
-use Rattle.protobuf_parse_base.specs.Relations.{somes}
-use Rattle.protobuf_parse_base.specs.Combinators.{shorter}
-use Rattle.protobuf_parse_base.specs.Loops.{shows_somes, goes_on, stops_here}
+use Rattle.protobuf_parse_grammar.specs.Relations.{somes}
+use Rattle.protobuf_parse_grammar.specs.Combinators.{shorter}
+use Rattle.protobuf_parse_grammar.specs.Loops.{shows_somes, goes_on, stops_here}
 use Rattle.protobuf_parse_lexer.specs.Text.{seen_by}
 use Rattle.protobuf_parse_syntax.specs.Productions as parse
 use Rattle.protobuf_parse_syntax.specs.Trees as tree
@@ -20,7 +20,7 @@ use Rattle.protobuf_parse_syntax.proofs.Versions.{says, made_fails, made_reads, 
 use Rattle.protobuf_parse_syntax.proofs.Versions.{message_in_runs, message_reserved, message_oneof}
 use Rattle.protobuf_parse_syntax.proofs.Versions.{message_extend, message_message, message_enum}
 use Rattle.protobuf_parse_syntax.proofs.Versions.{message_extensions, message_option, message_field}
-use Rattle.protobuf_parse_syntax.proofs.Versions.{message_plain, message_item_runs, puts_some}
+use Rattle.protobuf_parse_syntax.proofs.Versions.{message_normal, message_item_runs, puts_some}
 use Rattle.protobuf_parse_syntax.specs.declared.tree.Syntax.TheVariants.{Proto2}
 use Rattle.protobuf_parse_syntax.proofs.parser.message.+message.Goals as goal
 use Rattle.protobuf_parse_syntax.proofs.parser.message.+message.Goals.{other_statement-in-Proto2}
@@ -29,7 +29,7 @@ use Rattle.protobuf_parse_syntax.proofs.parser.message.+message.Goals.{other_sta
 use Rattle.protobuf_parse_syntax.proofs.parser.message.+message.Goals.{other_statement-else-matches-via-else-matches}
 
 pub message-returns-then-levels-eq0 : goal.message-returns-then-levels-eq0
-message-returns-then-levels-eq0 t c = (
+message-returns-then-levels-eq0 t c = inr (
   too_deep,
   message_zero c.args.syntax c.args.levels (left c.args.tokens.now) (omega arith),
   inl (refl, refl),
@@ -403,7 +403,7 @@ message_statement-returns-in_err-field t c =
     rw (p.1, p.2)
     (made_fails tree.message_field c.in_err-field.field-0.0 _
     ((nest.field c.args.syntax c.args.levels).run (left c.args.tokens.now)) _
-    (message_plain c.args.syntax c.args.levels (left c.args.tokens.now)
+    (message_normal c.args.syntax c.args.levels (left c.args.tokens.now)
     (sym c.sees_statement_word.ensures ∙ c.if-sees_statement_word.false))
     c.in_err-field.ensures)
 
@@ -413,7 +413,7 @@ message_statement-returns t c = (
   c.in_ok-push.ensures.items,
   made_reads tree.message_field _ _ _
       ((nest.field c.args.syntax c.args.levels).run (left c.args.tokens.now)) _
-      (message_plain c.args.syntax c.args.levels (left c.args.tokens.now)
+      (message_normal c.args.syntax c.args.levels (left c.args.tokens.now)
       (sym c.sees_statement_word.ensures ∙ c.if-sees_statement_word.false))
       c.in_ok-field.ensures (views_field c.in_ok-field.field),
 )

@@ -1,8 +1,8 @@
 use Rattle.std.proofs.Common.{◌≡◌, List, map}
-use Rattle.protobuf_parse_base.specs.Relations.{somes}
-use Rattle.protobuf_parse_base.specs.Readers.{size}
-use Rattle.protobuf_parse_base.specs.Combinators.{run_many}
-use Rattle.protobuf_parse_base.specs.Loops.{with_rest}
+use Rattle.protobuf_parse_grammar.specs.Relations.{somes}
+use Rattle.protobuf_parse_grammar.specs.Readers.{size}
+use Rattle.protobuf_parse_grammar.specs.Combinators.{run_many}
+use Rattle.protobuf_parse_grammar.specs.Loops.{with_rest}
 use Rattle.protobuf_parse_syntax.specs.Trees.{oneof_statement_syntax, OneofStatementSyntax}
 use Rattle.protobuf_parse_syntax.specs.Nested as nest
 use Rattle.protobuf_parse_syntax.specs.Code.{left}

@@ -1,7 +1,7 @@
 use Rattle.std.proofs.Common.{ℕ, List, ◌++◌, string_bytes, refl, sym, ap, ◌∙◌, lit<}
 use Rattle.std.proofs.lemmas.Str.{encode_ascii}
 use Rattle.std.proofs.lemmas.Result.{err_from_is_err_and}
-use Rattle.protobuf_parse_base.specs.Loops.{goes_on, stops_here}
+use Rattle.protobuf_parse_grammar.specs.Loops.{goes_on, stops_here}
 use Rattle.protobuf_parse_syntax.specs.Grammar.{dots}
 use Rattle.protobuf_parse_syntax.specs.Productions as read
 use Rattle.protobuf_parse_syntax.specs.Code.{left}

@@ -26,9 +26,9 @@ returns-then-begins_option_part c =
 
 pub returns : goal.returns
 returns c =
-    inl (
+    inl (inl (
       parts_full (left c.args.tokens.now) (left c.symbol.new.self)
           (sym c.sees_symbol.ensures ∙ c.if-not-sees_symbol.false) c.in_ok-symbol.ensures
           (sym c.begins_option_part.ensures ∙ c.if-begins_option_part.false),
       tt,
-    )
+    ))

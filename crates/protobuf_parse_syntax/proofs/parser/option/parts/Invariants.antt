@@ -1,5 +1,5 @@
 use Rattle.std.proofs.Common.{◌≡◌, map}
-use Rattle.protobuf_parse_base.specs.Combinators.{with_first}
+use Rattle.protobuf_parse_grammar.specs.Combinators.{with_first}
 use Rattle.protobuf_parse_syntax.specs.Trees.{option_part_syntax}
 use Rattle.protobuf_parse_syntax.specs.Productions.{parts_up_to}
 use Rattle.protobuf_parse_syntax.specs.Code.{left}

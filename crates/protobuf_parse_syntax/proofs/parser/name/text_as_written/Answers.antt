@@ -1,7 +1,7 @@
 use Rattle.std.proofs.Common.{sym, ◌∙◌}
 use Rattle.protobuf_parse_syntax.specs.Code.{left}
 use Rattle.protobuf_parse_syntax.proofs.Strings.{says_itself}
-use Rattle.protobuf_parse_syntax.proofs.parser.name.plain_text.Goals as goal
+use Rattle.protobuf_parse_syntax.proofs.parser.name.text_as_written.Goals as goal
 
 pub returns-then-stands_for_itself : goal.returns-then-stands_for_itself
 returns-then-stands_for_itself c =
