@@ -1,8 +1,10 @@
 -- Full names by their hashes.
-use Rattle.std.proofs.Common.{◌≡◌, ℕ, List, [], ◌∷◌, ◌++◌, Bool, true, false, cond, ap, sym, refl}
+use Rattle.std.proofs.Common.{◌≡◌, ◌⊎◌, inl, inr, ℕ, List, [], ◌∷◌, ◌++◌, Bool, true, false, cond, ap, sym, refl}
 use Rattle.std.proofs.Common.{◌∙◌, if◌then◌else◌, Option, Some, None, bytes_eq, nat_eq, append-nil}
 use Rattle.std.proofs.Common.{◌<◌, ◌≤◌, ◌-◌, zero, suc, arith, get_or, length, subst, slice_set}
-use Rattle.std.specs.Prelude.{String, string_bytes, slice_get, IsSome}
+use Rattle.std.specs.Prelude.{String, string_bytes, slice_get, IsSome, Result, Ok, Err, IfOk, OnErr}
+use Rattle.std.specs.Prelude.{OnOk}
+use Rattle.std.specs.declared.alloc.AllocError.{AllocError}
 use Rattle.std.specs.Cmp.Lexicographic.{slice_cmp}
 use Rattle.std.specs.Global.{Global, Vec}
 use Rattle.std.specs.BTreeMap.{BTreeMap, Updates, get, is_at}
@@ -21,7 +23,7 @@ use Rattle.protobuf_parse_model.specs.declared.scope.seen.OneHash.TheVariants.{N
 use Rattle.protobuf_parse_model.specs.ByHash.{declarations_in}
 use Rattle.protobuf_parse_model.specs.AddsByHash.{AddsByHash, AddsInMap, IsWith}
 use Rattle.protobuf_parse_model.specs.ByHash.{declared_by_hash, declared_of}
-use Rattle.protobuf_parse_model.specs.AddsByHash.{declared_in_map}
+use Rattle.protobuf_parse_model.specs.AddsByHash.{declared_in_map, MayForget, MayForgetInMap}
 use Rattle.protobuf_parse_model.specs.ByHash.{hash_of, map_of, names_in, names_of_hash}
 use Rattle.protobuf_parse_model.specs.declared.scope.seen.Declarations.{Declarations}
 use Rattle.protobuf_parse_model.specs.Descriptors.{Text}
@@ -81,6 +83,62 @@ stays_ordered old new full d None none adds same e text =
         absurd (omega (arith, zero, some))
 stays_ordered old new full d (Some n) none adds same e text =
     subst FilesAscend (sym (same refl text)) (old.ordered e text)
+
+-- where a hash has lost its names, each full name is declared as it was, or no more
+pub may_forget_one : (old between new : BTreeMap ℕ OneHash) (hash : ℕ)
+    → Updates nat_cmp old between hash None → new.entries ≡ between.entries
+    → MayForgetInMap old new
+may_forget_one old between new hash removes same text =
+    at (is_eq (nat_cmp hash (hash_of text))) refl
+  where
+    now : get nat_cmp new (hash_of text)
+        ≡ cond (is_eq (nat_cmp hash (hash_of text))) None (get nat_cmp old (hash_of text))
+    now = ap (lookup (is_at (nat_cmp (hash_of text)))) same ∙ removes.0 (hash_of text)
+
+    at : (b : Bool) → is_eq (nat_cmp hash (hash_of text)) ≡ b
+        → (declared_in_map new text ≡ declared_in_map old text) ⊎ (declared_in_map new text ≡ [])
+    at true is = inr (ap (λ o. declared_of o text) (now
+        ∙ ap (λ b. cond b None (get nat_cmp old (hash_of text))) is))
+    at false is = inl (ap (λ o. declared_of o text) (now
+        ∙ ap (λ b. cond b None (get nat_cmp old (hash_of text))) is))
+
+-- What is still declared is in the order of the files.
+pub forgets_ordered : (old : Declarations) (new : List (BTreeMap ℕ OneHash))
+    → MayForget old.by_hash.items new → old.in_order ≡ true → (text : Text)
+    → FilesAscend (declared_by_hash new text)
+forgets_ordered old new forgets e text = at (forgets text)
+  where
+    at : (declared_by_hash new text ≡ declared_as old text) ⊎ (declared_by_hash new text ≡ [])
+        → FilesAscend (declared_by_hash new text)
+    at (inl same) = subst FilesAscend (sym same) (old.ordered e text)
+    at (inr none) = subst FilesAscend (sym none) (λ i j d le less. absurd (omega (arith, less)))
+
+-- The same, however putting a name first ended.
+pub still_ordered : (old : Declarations) (new : List (BTreeMap ℕ OneHash)) (full : Text)
+    (d : Declaration) (r : Result (Option (String Global)) AllocError)
+    → IfOk r (λ taken. taken ≡ None → declared_by_hash old.by_hash.items full ≡ [])
+    → IfOk r (λ taken. taken ≡ None → AddsByHash old.by_hash.items new full d)
+    → IfOk r (λ taken. IsSome taken
+    → (text : Text) → declared_by_hash new text ≡ declared_by_hash old.by_hash.items text)
+    → OnErr r ((text : Text) → declared_by_hash new text ≡ declared_by_hash old.by_hash.items text)
+    → old.in_order ≡ true → (text : Text) → FilesAscend (declared_by_hash new text)
+still_ordered old new full d (Ok taken) none adds same kept e =
+    stays_ordered old new full d taken none adds same e
+still_ordered old new full d (Err x) none adds same kept e =
+    λ text. subst FilesAscend (sym (kept text)) (old.ordered e text)
+
+-- The same, however adding a declaration to others ended.
+pub ordered_again : (old : Declarations) (new : List (BTreeMap ℕ OneHash)) (full : Text)
+    (d : Declaration) (r : Result (Unit {0}) AllocError)
+    → OnOk r (AddsByHash old.by_hash.items new full d)
+    → OnErr r (MayForget old.by_hash.items new)
+    → ((text : Text)
+    → FilesAscend (declared_as old text ++ (if bytes_eq full text then d ∷ [] else [])))
+    → old.in_order ≡ true → (text : Text) → FilesAscend (declared_by_hash new text)
+ordered_again old new full d (Ok x) adds forgets ascend e text =
+    subst FilesAscend (sym (adds text)) (ascend text)
+ordered_again old new full d (Err x) adds forgets ascend e text =
+    forgets_ordered old new forgets e text
 
 -- a declaration more, behind those of the names of its hash
 pub adds_alike : (old between new : BTreeMap ℕ OneHash) (full : Text) (d : Declaration) (hash : ℕ)
@@ -187,3 +245,21 @@ module _ (start maps : List (BTreeMap ℕ OneHash)) (before after : BTreeMap ℕ
       go false true elsewhere eq = absurd (false≢true (sym elsewhere
           ∙ (Decides-eqb (map_of (hash_of text)) i).1
           (ap (λ t. map_of (hash_of t)) (sym ((bytes_eq-Decides full text).0 eq)) ∙ sym is)))
+
+  -- what may be gone from the one may be gone from all
+  pub may_forget_in_all : MayForgetInMap before after → MayForget start changed
+  may_forget_in_all forgets text = go (nat_eq (map_of (hash_of text)) i) refl
+    where
+      at : nat_eq (map_of (hash_of text)) i ≡ true
+          → (declared_in_map after text ≡ declared_in_map before text)
+          ⊎ (declared_in_map after text ≡ [])
+          → (declared_by_hash changed text ≡ declared_by_hash start text)
+          ⊎ (declared_by_hash changed text ≡ [])
+      at here (inl same) = inl (in_changed text true here ∙ same ∙ in_start text here)
+      at here (inr none) = inr (in_changed text true here ∙ none)
+
+      go : (b : Bool) → nat_eq (map_of (hash_of text)) i ≡ b
+          → (declared_by_hash changed text ≡ declared_by_hash start text)
+          ⊎ (declared_by_hash changed text ≡ [])
+      go true here = at here (forgets text)
+      go false elsewhere = inl (in_changed text false elsewhere)

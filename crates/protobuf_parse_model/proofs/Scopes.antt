@@ -1,11 +1,12 @@
--- Look-up from the innermost scope outward, step by step.
-use Rattle.std.proofs.Common.{◌≡◌, ℕ, zero, suc, ◌+◌, ◌-◌, ◌<◌, ◌≤◌, List, [], ◌∷◌, ◌++◌, length}
-use Rattle.std.proofs.Common.{take, get_or, Option, Some, None, refl, sym, ◌∙◌, ap, arith, false}
-use Rattle.std.proofs.Common.{Result, Ok, Err, nat_eq, inl, inr, append_assoc, append-nil}
+-- Look-up from the innermost scope outward, full name by full name.
+use Rattle.std.proofs.Common.{◌≡◌, ℕ, ◌<◌, ◌≤◌, List, [], ◌∷◌, ◌++◌, length, map, drop, get_or}
+use Rattle.std.proofs.Common.{Bool, true, false, if◌then◌else◌, Option, Some, None, refl, sym, ◌∙◌}
+use Rattle.std.proofs.Common.{ap, arith, Result, Ok, Err, nat_eq, inl, inr, append_assoc}
+use Rattle.std.proofs.Common.{append-nil}
 use Rattle.std.specs.Borrow.{Bor}
 use Rattle.std.specs.Option.{option_or}
 use Rattle.std.specs.Result.{is_ok}
-use Rattle.std.specs.List.{list_any}
+use Rattle.std.specs.List.{IsLastAndRest, list_any}
 use Rattle.std.specs.List.Sorted.{IsBinarySearchResult, IsStrictlyIncreasing}
 use Rattle.std.specs.Ordering.{nat_cmp}
 use Rattle.std.proofs.lemmas.Bool.{cases_lt, eq-eqb, ne_eqb}
@@ -13,75 +14,85 @@ use Rattle.std.proofs.lemmas.List.Elements.{All-from_get_or}
 use Rattle.std.proofs.lemmas.List.Folds.{list_any_at, list_any_none}
 use Rattle.std.proofs.lemmas.List.Sorted.{searched}
 use Rattle.std.proofs.lemmas.Map.Keys.{non_decreasing_from_sorted, sorted_from_strictly_increasing}
-use Rattle.std.proofs.lemmas.List.{map_more}
+use Rattle.std.proofs.lemmas.List.{map-append}
 use Rattle.protobuf_parse_base.specs.Names.{absolute_text, fronts}
 use Rattle.protobuf_parse_base.proofs.Fronts.{fronts-push}
 use Rattle.protobuf_parse_base.proofs.NameTexts.{absolute_text-append}
 use Rattle.protobuf_parse_model.specs.Descriptors.{Text}
 use Rattle.protobuf_parse_model.specs.SeenFiles.{name_texts}
-use Rattle.protobuf_parse_model.specs.Declarations.{Declared, full_name}
-use Rattle.protobuf_parse_model.specs.Lookup.{Meanings, declared_in_first}
+use Rattle.protobuf_parse_model.specs.Declarations.{Declared, Scope, full_name}
+use Rattle.protobuf_parse_model.specs.Lookup.{Meanings, begins_with_dot, declared_in_first, meant}
+use Rattle.protobuf_parse_model.specs.Outward.{first_name, full_names, later_names}
+use Rattle.protobuf_parse_model.specs.Outward.{names_outward}
+use Rattle.protobuf_parse_model.specs.declared.scope.outward.Outward.{Outward}
 
-module _ {A : Type 0} (of : Meanings A) (name : Text) (scope : List (Bor (List ℕ))) where
-  abbrev here : ℕ → Option (Declared A)
-  here n = of (full_name (name_texts (take n scope)) name)
+-- what the first of these full names means that means something
+abbrev pub first_meant : {A : Type 0} → Meanings A → List Text → Option (Declared A)
+first_meant of [] = None
+first_meant of (name ∷ names) = option_or (of name) (first_meant of names)
 
-  abbrev outward : ℕ → Option (Declared A)
-  outward n = declared_in_first of name (fronts (name_texts (take n scope)))
+module _ {A : Type 0} (of : Meanings A) where
+  among_fronts : (name : Text) (scopes : List Scope)
+      → first_meant of (map (λ scope. full_name scope name) scopes)
+      ≡ declared_in_first of name scopes
+  among_fronts name [] = refl
+  among_fronts name (scope ∷ scopes) =
+      ap (option_or (of (full_name scope name))) (among_fronts name scopes)
 
-  next : (n : ℕ) → suc n ≡ n + 1
-  next n = omega arith
+  alone : (o : Option (Declared A)) → option_or o None ≡ o
+  alone None = refl
+  alone (Some d) = refl
 
-  longest : (n : ℕ) → n < length scope → outward (suc n) ≡ option_or (here (suc n)) (outward n)
-  longest n lt =
-      let d = get_or scope n (record { ref_ptr = (0, 0); now = [] }) in
-      let e : name_texts (take (suc n) scope) ≡ name_texts (take n scope) ++ d.now
-      ∷ [] = ap (λ k. name_texts (take k scope)) (next n)
-      ∙ map_more (λ (s : Bor (List ℕ)). s.now) scope n
-      (record { ref_ptr = (0, 0); now = [] }) lt in
-      rw (e, fronts-push (name_texts (take n scope)) d.now) refl
+  pub first_meant-full_names : (scope : Scope) (name : Text)
+      → first_meant of (full_names scope name) ≡ meant of scope name
+  first_meant-full_names scope name = by (begins_with_dot name)
+    where
+      by : (b : Bool) → first_meant of (if b then name ∷ [] else names_outward scope name)
+          ≡ (if b then of name else declared_in_first of name (fronts scope))
+      by true = alone (of name)
+      by false = among_fronts name (fronts scope)
 
-  pub found-here : (k : ℕ) (whole : Option (Declared A)) (d : Declared A) → 0 < k → k ≤ length scope
-      → whole ≡ outward k → Some d ≡ here k → Some d ≡ whole
-  found-here zero whole d pos le is h = absurd (omega (arith, pos))
-  found-here (suc n) whole d pos le is h =
-      sym (is ∙ longest n (omega arith) ∙ ap (λ o. option_or o (outward n)) (sym h))
+-- ** the full names from a scope outward
 
-  pub none-here : (k : ℕ) (whole : Option (Declared A)) → 0 < k → k ≤ length scope
-      → whole ≡ outward k → None ≡ here k → whole ≡ outward (k - 1)
-  none-here zero whole pos le is h = absurd (omega (arith, pos))
-  none-here (suc n) whole pos le is h =
-      let before : n ≡ suc n - 1 = omega arith in
-      is ∙ longest n (omega arith) ∙ ap (λ o. option_or o (outward n)) (sym h) ∙ ap outward before
+head_apart : {X : Type 0} (xs ys : List X) (x : X) → xs ≡ x ∷ ys → xs ≡ x ∷ drop 1 xs
+head_apart xs ys x e = e ∙ sym (ap (λ all. x ∷ drop 1 all) e)
 
--- ** full names, from the innermost scope outward
+fronts-first : {X : Type 0} (xs : List X) → fronts xs ≡ xs ∷ drop 1 (fronts xs)
+fronts-first [] = refl
+fronts-first (x ∷ xs) =
+    head_apart _ _ _ (ap (λ all. map (λ front. x ∷ front) all ++ ([] ∷ [])) (fronts-first xs))
 
-full_name-last : (front : List Text) (last name : Text)
-    → full_name (front ++ last ∷ []) name ≡ absolute_text front ++ 46 ∷ (last ++ 46 ∷ name)
-full_name-last front last name =
-    ap (λ t. t ++ 46 ∷ name) (absolute_text-append front (last ∷ []))
-    ∙ append_assoc (absolute_text front) (46 ∷ (last ++ [])) (46 ∷ name)
-    ∙ ap (λ t. absolute_text front ++ 46 ∷ (t ++ 46 ∷ name)) (append-nil last)
+-- that in the scope stands first
+pub names_outward-first : (scope : Scope) (name : Text)
+    → names_outward scope name ≡ full_name scope name ∷ drop 1 (names_outward scope name)
+names_outward-first scope name =
+    head_apart _ _ _ (ap (map (λ front. full_name front name)) (fronts-first scope))
 
 -- with the last name of the scope set apart
-pub full_name-outward : (scope : List (Bor (List ℕ))) (name : Text) (n : ℕ) (last : Bor (List ℕ))
-    → 0 < n → n ≤ length scope
-    → last ≡ get_or scope (n - 1) (record { ref_ptr = (0, 0); now = [] })
-    → full_name (name_texts (take n scope)) name
-    ≡ absolute_text (name_texts (take (n - 1) scope)) ++ 46 ∷ (last.now ++ 46 ∷ name)
-full_name-outward scope name zero last pos le is = absurd (omega (arith, pos))
-full_name-outward scope name (suc m) last pos le is =
-    let none : Bor (List ℕ) = record { ref_ptr = (0, 0); now = [] } in
-    let next : suc m ≡ m + 1 = omega arith in
-    let before : suc m - 1 ≡ m = omega arith in
-    let here : last ≡ get_or scope m none = is ∙ ap (λ k. get_or scope k none) before in
-    let whole : name_texts (take (suc m) scope) ≡ name_texts (take m scope) ++ last.now ∷ [] =
-    ap (λ k. name_texts (take k scope)) next
-    ∙ map_more (λ (s : Bor (List ℕ)). s.now) scope m none (omega (arith, le))
-    ∙ ap (λ (d : Bor (List ℕ)). name_texts (take m scope) ++ d.now ∷ []) (sym here) in
-    ap (λ s. full_name s name) whole ∙ full_name-last (name_texts (take m scope)) last.now name
-    ∙ ap (λ k. absolute_text (name_texts (take k scope)) ++ 46 ∷ (last.now ++ 46 ∷ name))
-    (sym before)
+module _ (names : Outward) (outer : List (Bor (List ℕ))) (last : Bor (List ℕ))
+    (apart : IsLastAndRest names.scope.now last outer) where
+  abbrev front : Scope
+  front = name_texts outer
+
+  abbrev name : Text
+  name = names.name.now
+
+  texts_apart : name_texts names.scope.now ≡ front ++ last.now ∷ []
+  texts_apart = ap name_texts apart.0 ∙ map-append (λ (s : Bor (List ℕ)). s.now) outer (last ∷ [])
+
+  pub first_name-apart : first_name names ≡ absolute_text front ++ 46 ∷ (last.now ++ 46 ∷ name)
+  first_name-apart =
+      names.in_scope (omega (arith, apart.1)) ∙ ap (λ texts. full_name texts name) texts_apart
+      ∙ ap (λ t. t ++ 46 ∷ name) (absolute_text-append front (last.now ∷ []))
+      ∙ append_assoc (absolute_text front) (46 ∷ (last.now ++ [])) (46 ∷ name)
+      ∙ ap (λ t. absolute_text front ++ 46 ∷ (t ++ 46 ∷ name)) (append-nil last.now)
+
+  pub later_names-apart : later_names names
+      ≡ full_name front name ∷ drop 1 (names_outward front name)
+  later_names-apart =
+      ap (λ texts. drop 1 (names_outward texts name)) texts_apart
+      ∙ ap (λ all. drop 1 (map (λ scope. full_name scope name) all)) (fronts-push front last.now)
+      ∙ names_outward-first front name
 
 -- ** a search among ascending numbers
 

@@ -1,7 +1,6 @@
 -- What a file sees, by the table of declarations.
 use Rattle.std.proofs.Common.{◌≡◌, ℕ, suc, List, [], ◌∷◌, ◌++◌, Bool, true, false, cond}
 use Rattle.std.proofs.Common.{if◌then◌else◌, Option, Some, None, refl, sym, ap, ◌∙◌, bytes_eq}
-use Rattle.std.proofs.Common.{IfOk, Result, subst}
 use Rattle.std.proofs.Common.{map, flat_map, filter, option_map, nat_eq}
 use Rattle.std.specs.List.{find, list_any}
 use Rattle.std.specs.Option.{option_or}
@@ -21,9 +20,8 @@ use Rattle.protobuf_parse_model.specs.Declarations.{MessageOrEnum}
 use Rattle.protobuf_parse_model.specs.Environment.{type_named}
 use Rattle.protobuf_parse_model.specs.Lookup.{Meanings, declared, meaning}
 use Rattle.protobuf_parse_model.specs.Lookup.{meant as meant_by}
-use Rattle.protobuf_parse_model.specs.SeenFiles.{meaning_view, name_texts, names_of_context}
+use Rattle.protobuf_parse_model.specs.SeenFiles.{name_texts, names_of_context}
 use Rattle.protobuf_parse_model.specs.declared.scope.Context.{Context}
-use Rattle.protobuf_parse_model.specs.declared.scope.Meaning.{Meaning}
 use Rattle.protobuf_parse_model.specs.SeenFiles.{declared_type, first_type, seen_types, type_kind}
 use Rattle.protobuf_parse_model.specs.Tables.{TableTells, declared_by, declared_in, picked}
 use Rattle.protobuf_parse_model.proofs.DeclaredAt.{type_of, type_when, types_are}
@@ -161,12 +159,11 @@ seen_types_are seen files tells = fun_ext (λ (name : Text).
     (picked_among files sight seen.sight_ascends))
 
 -- So what a name means is what the types of those files say.
-pub named_by_files : {E : Type 0} (c : Context) (name : Text) (files : List FileSyntax)
-    → TableTells c.seen.declarations.now files → (r : Result (Option Meaning) E)
-    → IfOk r (λ m. option_map meaning_view m ≡ type_named (names_of_context c) name)
-    → IfOk r (λ m. option_map meaning_view m
-    ≡ meaning (flat_map file_types (picked files c.seen.sight.now)) (name_texts c.scope.now) name)
-named_by_files c name files tells r h =
-    subst (λ (of : Meanings MessageOrEnum). IfOk r
-    (λ m. option_map meaning_view m ≡ meant_by of (name_texts c.scope.now) name))
-    (seen_types_are c.seen files tells) h
+pub named_by_files : (c : Context) (name : Text) (files : List FileSyntax)
+    → TableTells c.seen.declarations.now files → (d : Option DeclaredType)
+    → d ≡ type_named (names_of_context c) name
+    → d ≡ meaning (flat_map file_types (picked files c.seen.sight.now))
+    (name_texts c.scope.now) name
+named_by_files c name files tells d h =
+    h ∙ ap (λ (of : Meanings MessageOrEnum). meant_by of (name_texts c.scope.now) name)
+    (seen_types_are c.seen files tells)

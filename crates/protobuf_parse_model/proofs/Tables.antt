@@ -4,7 +4,8 @@ use Rattle.std.proofs.Common.{if◌then◌else◌, Option, Some, None, refl, sym
 use Rattle.std.proofs.Common.{append-nil, append_assoc, map, filter, ◌+◌, ◌<◌, length}
 use Rattle.std.proofs.Common.{length-append, get_or, subst, arith, nat_eq}
 use Rattle.std.proofs.Common.{inl, inr}
-use Rattle.std.specs.Prelude.{String, string_bytes, unwrap_or, Contains}
+use Rattle.std.specs.Prelude.{String, string_bytes, unwrap_or, Contains, Result, Ok, Err, IfOk}
+use Rattle.std.specs.declared.alloc.AllocError.{AllocError}
 use Rattle.std.specs.Global.{Global, Vec}
 use Rattle.std.specs.Cmp.Lexicographic.{slice_cmp}
 use Rattle.std.specs.Ordering.{nat_cmp, is_eq}
@@ -217,6 +218,17 @@ adds_one old new full d adds lists = record {
               (lists.again was
               (subst (λ (t : Text). 0 < length (declared_as old t)) (sym is) some)))
         ]
+
+-- the same, where it was put if it is the first of its name
+pub adds_if_first : (old new : Declarations) (full : Text) (d : Declaration)
+    (r : Result (Option (String Global)) AllocError) → new.repeated ≡ old.repeated
+    → IfOk r (λ taken. taken ≡ None → declared_as old full ≡ [])
+    → IfOk r (λ taken. taken ≡ None → (text : Text) → declared_as new text
+    ≡ declared_as old text ++ (if bytes_eq full text then d ∷ [] else []))
+    → IfOk r (λ taken. taken ≡ None → AddsOne old new full d)
+adds_if_first old new full d (Ok taken) same none adds =
+    λ e. adds_one old new full d (adds e) (lists_none old new.repeated full d.file (none e) same)
+adds_if_first old new full d (Err x) same none adds = tt
 
 -- the same, where the table was first made one that says the same
 pub adds_after_same : (old between new : Declarations) (full : Text) (d : Declaration)

@@ -1,6 +1,6 @@
 -- No public clause rests on this file.
 -- What one declaration more makes of a map by hashes.
-use Rattle.std.specs.Prelude.{◌≡◌, ℕ, List, [], ◌∷◌, ◌++◌, Option, Some, if◌then◌else◌, bytes_eq}
+use Rattle.std.specs.Prelude.{◌≡◌, ◌⊎◌, ℕ, List, [], ◌∷◌, ◌++◌, Option, Some, if◌then◌else◌, bytes_eq}
 use Rattle.std.specs.BTreeMap.{BTreeMap, get}
 use Rattle.std.specs.Ordering.{nat_cmp}
 use Rattle.protobuf_parse_model.specs.declared.scope.seen.Declaration.{Declaration}
@@ -25,3 +25,13 @@ AddsByHash old new full d = (name : List ℕ) → declared_by_hash new name
 abbrev pub IsWith : Option OneHash → List ℕ → Declaration → OneHash → Type 0
 IsWith old full d new = (name : List ℕ) → declared_of (Some new) name
     ≡ declared_of old name ++ (if bytes_eq full name then d ∷ [] else [])
+
+-- each full name is declared in a map as it was, or no more
+abbrev pub MayForgetInMap : (old new : BTreeMap ℕ OneHash) → Type 0
+MayForgetInMap old new = (name : List ℕ) → (declared_in_map new name ≡ declared_in_map old name)
+    ⊎ (declared_in_map new name ≡ [])
+
+-- and in all of them
+abbrev pub MayForget : (old new : List (BTreeMap ℕ OneHash)) → Type 0
+MayForget old new = (name : List ℕ) → (declared_by_hash new name ≡ declared_by_hash old name)
+    ⊎ (declared_by_hash new name ≡ [])

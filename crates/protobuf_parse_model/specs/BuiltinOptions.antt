@@ -19,21 +19,9 @@ use Rattle.protobuf_parse_model.specs.declared.error.ElabErrorKind.TheVariants.{
 use Rattle.protobuf_parse_model.specs.declared.error.ElabErrorKind.TheVariants.{BuiltinOptionNotFound}
 use Rattle.protobuf_parse_model.specs.declared.error.ElabErrorKind.TheVariants.{BuiltinOptionPointsToNonSingularField}
 use Rattle.protobuf_parse_model.specs.declared.error.ElabErrorKind.TheVariants.{InconvertibleValue}
-use Rattle.protobuf_parse_model.specs.declared.descriptor.options.OptimizeMode.{OptimizeMode}
-use Rattle.protobuf_parse_model.specs.declared.descriptor.options.OptimizeMode.TheVariants.{Speed}
-use Rattle.protobuf_parse_model.specs.declared.descriptor.options.OptimizeMode.TheVariants.{CodeSize}
-use Rattle.protobuf_parse_model.specs.declared.descriptor.options.OptimizeMode.TheVariants.{LiteRuntime}
-use Rattle.protobuf_parse_model.specs.declared.descriptor.options.CType.{CType}
-use Rattle.protobuf_parse_model.specs.declared.descriptor.options.CType.TheVariants as ctypes
-use Rattle.protobuf_parse_model.specs.declared.descriptor.options.JSType.{JSType}
-use Rattle.protobuf_parse_model.specs.declared.descriptor.options.JSType.TheVariants.{JsNormal}
-use Rattle.protobuf_parse_model.specs.declared.descriptor.options.JSType.TheVariants.{JsString}
-use Rattle.protobuf_parse_model.specs.declared.descriptor.options.JSType.TheVariants.{JsNumber}
-use Rattle.protobuf_parse_model.specs.declared.descriptor.options.IdempotencyLevel.{IdempotencyLevel}
-use Rattle.protobuf_parse_model.specs.declared.descriptor.options.IdempotencyLevel.TheVariants.{IdempotencyUnknown}
-use Rattle.protobuf_parse_model.specs.declared.descriptor.options.IdempotencyLevel.TheVariants.{NoSideEffects}
-use Rattle.protobuf_parse_model.specs.declared.descriptor.options.IdempotencyLevel.TheVariants.{Idempotent}
 use Rattle.protobuf_parse_model.specs.Descriptors.{Text}
+use Rattle.protobuf_parse_model.specs.Words.{Words, words_of, optimize_modes, c_types, js_types}
+use Rattle.protobuf_parse_model.specs.Words.{idempotency_levels}
 use Rattle.protobuf_parse_model.specs.Faults.{Wrong, Fault, placed}
 use Rattle.protobuf_parse_model.specs.Duplicates.{fault, stands_in}
 
@@ -61,29 +49,6 @@ where_any (o ∷ os) options = Some options
 
 -- ---- values
 
--- an enum's values by their names
-abbrev pub Words : Type 0 → Type 0
-Words A = List (Text × A)
-
-abbrev pub words_of : {A : Type 0} → Words A → List Text
-words_of word_entry = map (λ w. w.0) word_entry
-
-abbrev pub optimize_modes : Words OptimizeMode
-optimize_modes = (codes "SPEED", Speed) ∷ (codes "CODE_SIZE", CodeSize)
-    ∷ (codes "LITE_RUNTIME", LiteRuntime) ∷ []
-
-abbrev pub c_types : Words CType
-c_types = (codes "STRING", ctypes.String) ∷ (codes "CORD", ctypes.Cord)
-    ∷ (codes "STRING_PIECE", ctypes.StringPiece) ∷ []
-
-abbrev pub js_types : Words JSType
-js_types = (codes "JS_NORMAL", JsNormal) ∷ (codes "JS_STRING", JsString)
-    ∷ (codes "JS_NUMBER", JsNumber) ∷ []
-
-abbrev pub idempotency_levels : Words IdempotencyLevel
-idempotency_levels = (codes "IDEMPOTENCY_UNKNOWN", IdempotencyUnknown)
-    ∷ (codes "NO_SIDE_EFFECTS", NoSideEffects) ∷ (codes "IDEMPOTENT", Idempotent) ∷ []
-
 abbrev pub text_said : ConstantSyntax → Option Text
 text_said (string pieces) = text_of pieces
 text_said _ = None
@@ -92,9 +57,13 @@ abbrev pub truth_said : ConstantSyntax → Option Bool
 truth_said (truth b) = Some b
 truth_said _ = None
 
+-- what the first entry of that name has
+abbrev pub under_name : {A : Type 0} → List (Text × A) → Text → Option A
+under_name table name = option_map (λ e. e.1) (find (λ e. bytes_eq e.0 name) table)
+
 abbrev pub word_said : {A : Type 0} → Words A → ConstantSyntax → Option A
-word_said word_entry (dotted n) = option_map (λ w. w.1) (find (λ w. bytes_eq w.0 n) word_entry)
-word_said word_entry _ = None
+word_said words (dotted n) = under_name words n
+word_said words _ = None
 
 -- what the last statement with the name says
 abbrev pub set_by : {A : Type 0} → (ConstantSyntax → Option A) → Option ConstantSyntax → Option A
@@ -108,7 +77,7 @@ abbrev pub truth_option : List OptionSyntax → Text → Option Bool
 truth_option os name = set_by truth_said (last_value name os)
 
 abbrev pub word_option : {A : Type 0} → Words A → List OptionSyntax → Text → Option A
-word_option word_entry os name = set_by (word_said word_entry) (last_value name os)
+word_option words os name = set_by (word_said words) (last_value name os)
 
 -- ---- which options there are
 
@@ -127,7 +96,7 @@ abbrev pub truth_entries : List Text → Table
 truth_entries names = map (λ (n : Text). (n, a_truth)) names
 
 abbrev pub word_entry : {A : Type 0} → Text → Words A → Table
-word_entry name of = (name, a_word (words_of of)) ∷ []
+word_entry name words = (name, a_word (words_of words)) ∷ []
 
 abbrev pub file_table : Table
 file_table =
@@ -178,21 +147,21 @@ string_faults name None = fault StrLitDecode name
 abbrev pub builtin_value_faults : Text → BuiltinKind → ConstantSyntax → List Wrong
 builtin_value_faults name a_text (string pieces) = string_faults name (text_of pieces)
 builtin_value_faults name a_truth (truth b) = []
-builtin_value_faults name (a_word word_entry) (dotted n) =
-    if stands_in n word_entry then [] else fault InconvertibleValue name
+builtin_value_faults name (a_word words) (dotted n) =
+    if stands_in n words then [] else fault InconvertibleValue name
 builtin_value_faults name _ _ = fault InconvertibleValue name
 
 -- E11 for a name that the table doesn't have
-abbrev pub builtin_entry_faults : Text → ConstantSyntax → Option (Text × BuiltinKind) → List Wrong
-builtin_entry_faults name value None = fault BuiltinOptionNotFound name
-builtin_entry_faults name value (Some entry) = builtin_value_faults name entry.1 value
+abbrev pub builtin_kind_faults : Text → ConstantSyntax → Option BuiltinKind → List Wrong
+builtin_kind_faults name value None = fault BuiltinOptionNotFound name
+builtin_kind_faults name value (Some kind) = builtin_value_faults name kind value
 
 -- every table has `uninterpreted_option`, which can't be set
 abbrev pub builtin_faults : Table → Text → ConstantSyntax → List Wrong
 builtin_faults table name value =
     if bytes_eq name (codes "uninterpreted_option")
     then fault BuiltinOptionPointsToNonSingularField name
-    else builtin_entry_faults name value (find (λ entry. bytes_eq entry.0 name) table)
+    else builtin_kind_faults name value (under_name table name)
 
 -- of one statement; a custom option has no such fault
 abbrev pub named_faults : Table → ConstantSyntax → OptionNameSyntax → List Wrong

@@ -6,11 +6,13 @@ pub mod Declarations
 pub mod Lookup
 pub mod Duplicates
 pub mod Environment
+pub mod Words
 pub mod BuiltinOptions
 pub mod ByHash
 pub mod OptionNumbers
 pub mod OptionMessages
 pub mod SeenFiles
+pub mod Outward
 pub mod Linking
 pub mod FileOrder
 pub mod DeclaredAt

@@ -8,8 +8,8 @@ use Rattle.protobuf_parse_model.specs.Options.{OneofOptionValues, EnumOptionValu
 use Rattle.protobuf_parse_model.specs.Options.{EnumValueOptionValues}
 use Rattle.protobuf_parse_model.specs.Options.{ServiceOptionValues, MethodOptionValues}
 use Rattle.protobuf_parse_model.specs.BuiltinOptions.{text_option, truth_option, word_option}
-use Rattle.protobuf_parse_model.specs.BuiltinOptions.{where_any, optimize_modes, c_types, js_types}
-use Rattle.protobuf_parse_model.specs.BuiltinOptions.{idempotency_levels}
+use Rattle.protobuf_parse_model.specs.BuiltinOptions.{where_any}
+use Rattle.protobuf_parse_model.specs.Words.{optimize_modes, c_types, js_types, idempotency_levels}
 use Rattle.protobuf_parse_model.specs.Descriptors.{Text}
 
 abbrev pub file_options : Text → List OptionSyntax → Option FileOptionValues

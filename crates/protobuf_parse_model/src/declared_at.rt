@@ -264,7 +264,6 @@ fn add_extension(
 }
 
 /// Adds the message behind a statement that declares a field, if one stands there.
-#[inline(always)]
 fn add_behind(
     list: &mut Vec<DeclaredAt>,
     alloc: Global,

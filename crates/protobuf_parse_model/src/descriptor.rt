@@ -4,6 +4,8 @@
 mod options;
 
 ghost use Rattle.std.specs.Prelude.{◌≡◌};
+ghost use Rattle.std.specs.Int.{w32};
+ghost use Rattle.std.specs.Int.RustNames.{FitsSigned};
 
 pub use options::{
     CType, EnumOptions, EnumValueOptions, FieldOptions, FileOptions, IdempotencyLevel, JSType,
@@ -146,6 +148,7 @@ pub struct EnumValueDescriptorProto {
     pub name: Name,
     pub number: i32,
     pub options: Option<EnumValueOptions>,
+    pub ghost fits: { FitsSigned w32 number },
 }
 
 /// A service.

@@ -10,6 +10,7 @@ mod error;
 mod linking;
 mod made_names;
 mod scope;
+mod words;
 
 pub use apart::are_apart;
 pub use customs::{Construct, CustomOptions, WithoutCustoms, path_text};
@@ -26,6 +27,10 @@ pub use error::{ElabError, ElabErrorKind, ElabFailure, fault, tell};
 pub use linking::{BEGINNING, link};
 pub use made_names::{entry_name, group_field_name};
 pub use scope::{
-    Context, Declaration, DeclarationKind, Declarations, Meaning, Seen, TypeKind, file_scope,
-    full_name, hash_of, scope_of_package, type_named,
+    Context, Declaration, DeclarationKind, Declarations, Meaning, Outward, Seen, TypeKind,
+    file_scope, full_name, hash_of, scope_of_package, type_named,
+};
+pub use words::{
+    C_TYPES, IDEMPOTENCY_LEVELS, JS_TYPES, OPTIMIZE_MODES, c_type_word, idempotency_level_word,
+    js_type_word, label_word, optimize_mode_word, type_word,
 };

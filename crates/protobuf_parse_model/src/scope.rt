@@ -1,15 +1,13 @@
 //! What the names of types mean.
 
-ghost use Rattle.std.specs.Prelude.{◌≡◌, ◌+◌, ◌<◌, ◌∷◌, ◌++◌, ℕ, List, flat_map, length, nat_eq};
-ghost use Rattle.std.specs.Prelude.{true, option_map, string_bytes, IfOk, OnOk};
+ghost use Rattle.std.specs.Prelude.{◌≡◌, List, flat_map, nat_eq, true, option_map, string_bytes};
+ghost use Rattle.std.specs.Prelude.{IfOk};
 ghost use Rattle.std.specs.List.{list_any};
-ghost use Rattle.protobuf_parse_base.specs.Characters as char;
-ghost use Rattle.protobuf_parse_base.specs.Names.{fronts};
 ghost use Rattle.protobuf_parse_syntax.specs.Trees.{FileSyntax};
 ghost use Rattle.protobuf_parse_model.specs.Declarations as names;
 ghost use Rattle.protobuf_parse_model.specs.Declarations.{file_types};
 ghost use Rattle.protobuf_parse_model.specs.Environment.{type_named};
-ghost use Rattle.protobuf_parse_model.specs.Lookup.{begins_with_dot, declared_in_first, meaning};
+ghost use Rattle.protobuf_parse_model.specs.Lookup.{meaning};
 ghost use Rattle.protobuf_parse_model.specs.Tables.{TableTells, picked};
 ghost use Rattle.protobuf_parse_model.specs.SeenFiles.{names_of_context};
 ghost use Rattle.protobuf_parse_model.specs.FileOrder.{FilesAscend};
@@ -22,6 +20,7 @@ ghost use Rattle.protobuf_parse_model.specs.SeenFiles.{name_texts, type_kind};
 mod by_hash;
 mod declare;
 mod ordered;
+mod outward;
 mod seen;
 
 use crate::descriptor::FieldType;
@@ -29,6 +28,7 @@ pub use by_hash::hash_of;
 use by_hash::{declared_of, names_of_hash};
 pub use declare::{file_scope, scope_of_package};
 pub use ordered::in_file;
+pub use outward::Outward;
 use protobuf_parse_syntax::Syntax;
 pub use seen::{Declaration, DeclarationKind, Declarations, Seen, TypeKind};
 use std::alloc::{AllocError, Global};
@@ -104,76 +104,19 @@ pub fn type_named(
         ≡ meaning (flat_map file_types (picked files context.now.seen.sight.now))
         (name_texts context.now.scope.now) name.now) }
 {
-    if is_absolute(name) {
-        type_by_full_name(alloc, &context.seen, name)
-    } else {
-        type_outward(alloc, context, name)
-    }
-}
-
-/// Whether a name means itself, by its first dot.
-fn is_absolute(name: &str) -> bool
-    ensures { result ≡ begins_with_dot name.now }
-{
-    name.starts_with('.')
-}
-
-/// The type that is declared by that full name.
-fn type_by_full_name(
-    alloc: Global,
-    seen: &Seen<'_>,
-    name: &str,
-) -> Result<Option<Meaning>, AllocError>
-    ensures { IfOk result (λ m. option_map meaning_view m ≡ seen_types seen.now name.now) }
-{
-    let full_name = String::from_str(alloc, name)?;
-    Ok(declared(seen, full_name))
-}
-
-/// The type that has the name in the innermost of the scopes there in which one has it.
-fn type_outward(
-    alloc: Global,
-    context: &Context<'_>,
-    name: &str,
-) -> Result<Option<Meaning>, AllocError>
-    ensures { IfOk result (λ m. option_map meaning_view m
-        ≡ declared_in_first (seen_types context.now.seen) name.now
-        (fronts (name_texts context.now.scope.now))) }
-{
-    let mut text = full_name(alloc, context.scope, name)?;
-    let mut length = context.scope.len();
-    while length > 0 {
-        if let Some(kind) = kind_declared(&context.seen, &text) {
-            return Ok(Some(Meaning { name: text, kind }));
+    let mut names = Outward::new(alloc, context.scope, name)?;
+    'names: loop {
+        if let Some(kind) = kind_declared(&context.seen, names.first()) {
+            return Ok(Some(Meaning {
+                name: names.into_first(),
+                kind,
+            }));
         }
-        length -= 1;
-        move_outward(&mut text, context.scope[length], name)?;
+        match names.rest()? {
+            Some(rest) => names = rest,
+            None => return Ok(None),
+        }
     }
-    Ok(declared(&context.seen, text))
-}
-
-/// Makes the full name of what has the name in a scope that of what has it in the scope around,
-/// where the last name of the scope is `last`.
-fn move_outward(text: &mut String, last: &str, name: &str) -> Result<(), AllocError>
-    requires { (front : List ℕ)
-        × (string_bytes text.old ≡ front ++ char.dot ∷ (last.now ++ char.dot ∷ name.now)) }
-    ensures { OnOk result ((front : List ℕ) →
-        string_bytes text.old ≡ front ++ char.dot ∷ (last.now ++ char.dot ∷ name.now) →
-        string_bytes text.new ≡ front ++ char.dot ∷ name.now) }
-{
-    let kept = text.len() - name.len() - last.len() - 2;
-    text.truncate(kept);
-    text.push('.')?;
-    text.push_str(name)?;
-    Ok(())
-}
-
-/// The type that is declared by that full name.
-fn declared(seen: &Seen<'_>, name: String) -> Option<Meaning>
-    ensures { option_map meaning_view result ≡ seen_types seen.now (string_bytes name) }
-{
-    let kind = kind_declared(seen, &name)?;
-    Some(Meaning { name, kind })
 }
 
 /// What kind of type is declared by that full name.

@@ -10,7 +10,7 @@ use Rattle.std.specs.Str.{is_utf8}
 use Rattle.std.proofs.lemmas.Bool.{ltb-false, eq-eqb, eqb-true}
 use Rattle.std.proofs.lemmas.List.{append-nil, take-append-drop, length-take-le}
 use Rattle.std.proofs.lemmas.Str.{is_utf8-from_IsUtf8, IsUtf8-from_is_utf8}
-use Rattle.protobuf_parse_base.specs.Relations.{none, more}
+use Rattle.protobuf_parse_grammar.specs.Relations.{none, more}
 use Rattle.protobuf_parse_model.specs.Descriptors.{Text, FieldDescriptor}
 use Rattle.protobuf_parse_wire.specs.declared.fault.ReadFault.{ReadFault}
 use Rattle.protobuf_parse_wire.specs.declared.fault.ReadFault.TheVariants.{Truncated, BadUtf8}

@@ -5,6 +5,7 @@ ghost use Rattle.std.specs.Prelude.{◌≡◌, IfOk, string_bytes};
 ghost use Rattle.protobuf_parse_model.specs.Descriptors.{file_view};
 ghost use Rattle.protobuf_parse_wire.specs.Declarations.{name_within, package_scope};
 
+use protobuf_parse_base::joins::join_at_dot;
 use protobuf_parse_model::FileDescriptorProto;
 use std::alloc::{AllocError, Global};
 
@@ -13,12 +14,7 @@ use std::alloc::{AllocError, Global};
 pub fn name_within(alloc: Global, scope: &str, name: &str) -> Result<String, AllocError>
     ensures { IfOk result (λ s. string_bytes s ≡ name_within scope.now name.now) }
 {
-    let room = scope.len().saturating_add(name.len()).saturating_add(1);
-    let mut full = String::with_capacity(alloc, room)?;
-    full.push_str(scope)?;
-    full.push('.')?;
-    full.push_str(name)?;
-    Ok(full)
+    join_at_dot(alloc, scope, name)
 }
 
 /// The scope of what a file declares: its package, if it has one, after a dot. The one error is

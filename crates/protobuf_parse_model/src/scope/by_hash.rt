@@ -2,13 +2,13 @@
 
 ghost use Rattle.std.specs.Prelude.{◌≡◌, ◌<◌, ℕ, [], ◌∷◌, ◌++◌, bytes_eq, if◌then◌else◌, length};
 ghost use Rattle.std.specs.Prelude.{string_bytes, option_map, None, Some, IfOk, IfSome, IsSome};
-ghost use Rattle.std.specs.Prelude.{OnOk};
+ghost use Rattle.std.specs.Prelude.{OnErr, OnOk};
 ghost use Rattle.std.specs.BTreeMap.{get_by_text};
 ghost use Rattle.protobuf_parse_model.specs.declared.scope.seen.OneHash.TheVariants.{Name, Names};
 ghost use Rattle.protobuf_parse_model.specs.ByHash.{declarations_in};
 ghost use Rattle.protobuf_parse_model.specs.AddsByHash.{AddsByHash, AddsInMap, IsWith};
 ghost use Rattle.protobuf_parse_model.specs.ByHash.{declared_by_hash, declared_of};
-ghost use Rattle.protobuf_parse_model.specs.AddsByHash.{declared_in_map};
+ghost use Rattle.protobuf_parse_model.specs.AddsByHash.{declared_in_map, MayForget, MayForgetInMap};
 ghost use Rattle.protobuf_parse_model.specs.ByHash.{hash_of, map_of, names_of_hash};
 ghost use Rattle.protobuf_parse_model.specs.Descriptors.{Text};
 ghost use Rattle.protobuf_parse_model.specs.ByHash.{listed};
@@ -94,6 +94,8 @@ pub fn insert_first(
     ensures same { IfOk result (λ taken. IsSome taken → (text : Text) →
         declared_by_hash maps.new.items text ≡ declared_by_hash maps.old.items text) }
     ensures back { IfOk result (λ taken. IfSome taken (λ n. n ≡ name)) }
+    ensures err { OnErr result ((text : Text) →
+        declared_by_hash maps.new.items text ≡ declared_by_hash maps.old.items text) }
 {
     let map = map_of(hash);
     make_room(maps, alloc, map)?;
@@ -115,6 +117,8 @@ fn insert_in(
     ensures same { IfOk result (λ taken. IsSome taken → (text : Text) →
         declared_in_map by_hash.new text ≡ declared_in_map by_hash.old text) }
     ensures back { IfOk result (λ taken. IfSome taken (λ n. n ≡ name)) }
+    ensures err { OnErr result ((text : Text) →
+        declared_in_map by_hash.new text ≡ declared_in_map by_hash.old text) }
 {
     match by_hash.entry(hash)? {
         Entry::Vacant(place) => {
@@ -133,8 +137,8 @@ fn make_room(
     map: usize,
 ) -> Result<(), AllocError>
     ensures within { OnOk result (map < length maps.new.items) }
-    ensures same { OnOk result ((hash : ℕ) →
-        names_of_hash maps.new.items hash ≡ names_of_hash maps.old.items hash) }
+    ensures same { (hash : ℕ) →
+        names_of_hash maps.new.items hash ≡ names_of_hash maps.old.items hash }
 {
     while maps.len() <= map {
         maps.push(BTreeMap::new(alloc))?;
@@ -151,8 +155,9 @@ pub fn add_alike(
     declaration: Declaration,
 ) -> Result<(), AllocError>
     requires { hash ≡ hash_of (string_bytes name) }
-    ensures { OnOk result
+    ensures ok { OnOk result
         (AddsByHash maps.old.items maps.new.items (string_bytes name) declaration) }
+    ensures err { OnErr result (MayForget maps.old.items maps.new.items) }
 {
     let map = map_of(hash);
     make_room(maps, alloc, map)?;
@@ -168,7 +173,8 @@ fn add_alike_in(
     declaration: Declaration,
 ) -> Result<(), AllocError>
     requires { hash ≡ hash_of (string_bytes name) }
-    ensures { OnOk result (AddsInMap by_hash.old by_hash.new (string_bytes name) declaration) }
+    ensures ok { OnOk result (AddsInMap by_hash.old by_hash.new (string_bytes name) declaration) }
+    ensures err { OnErr result (MayForgetInMap by_hash.old by_hash.new) }
 {
     let declared = with_alike(alloc, by_hash.remove(&hash), name, declaration)?;
     by_hash.insert(hash, declared)?;

@@ -113,11 +113,7 @@ fn put_first(
     ensures same { IfOk result (λ taken. IsSome taken → SaysSame table.old table.new) }
     ensures back { IfOk result (λ taken. IfSome taken (λ n. n ≡ name)) }
 {
-    let in_order = table.in_order;
-    table.in_order = false;
-    let taken = insert_first(&mut table.by_hash, alloc, hash, name, declaration)?;
-    table.in_order = in_order;
-    Ok(taken)
+    insert_first(&mut table.by_hash, alloc, hash, name, declaration)
 }
 
 /// Adds a declaration of that full name, where names of its hash are declared, and lists it where
@@ -132,18 +128,16 @@ fn put_again(
     requires { hash ≡ hash_of (string_bytes name) }
     ensures { OnOk result (AddsOne table.old table.new (string_bytes name) declaration) }
 {
-    let in_order = stays_in_order(table, &name, declaration);
-    table.in_order = false;
+    table.in_order = stays_in_order(table, &name, declaration);
     list_repeated(table, alloc, &name, declaration.file)?;
-    add_alike(&mut table.by_hash, alloc, hash, name, declaration)?;
-    table.in_order = in_order;
-    Ok(())
+    add_alike(&mut table.by_hash, alloc, hash, name, declaration)
 }
 
 /// Whether the table is in the order of the files, and will be with that declaration of the full
 /// name.
 fn stays_in_order(table: &Declarations, name: &str, declaration: Declaration) -> bool
-    ensures { result ≡ true → (text : Text) → FilesAscend (declared_as table.now text
+    ensures was { result ≡ true → table.now.in_order ≡ true }
+    ensures stays { result ≡ true → (text : Text) → FilesAscend (declared_as table.now text
         ++ (if bytes_eq name.now text then declaration ∷ [] else [])) }
 {
     table.in_order

@@ -1,5 +1,6 @@
 use Rattle.std.proofs.Common.{◌≡◌, ◌∙◌, ◌++◌, ◌∷◌, [], ℕ, ap, bytes_eq, if◌then◌else◌}
 use Rattle.std.proofs.Common.{string_bytes, subst, sym, true}
+use Rattle.std.proofs.lemmas.Result.{on_ok_weaker}
 use Rattle.std.specs.BTreeMap.{BTreeMap}
 use Rattle.std.specs.Global.{Vec}
 use Rattle.protobuf_parse_model.specs.ByHash.{declared_by_hash}
@@ -8,23 +9,31 @@ use Rattle.protobuf_parse_model.specs.Descriptors.{Text}
 use Rattle.protobuf_parse_model.specs.FileOrder.{FilesAscend}
 use Rattle.protobuf_parse_model.specs.SeenFiles.{declared_as}
 use Rattle.protobuf_parse_model.specs.TableParts.{ListsOne}
+use Rattle.protobuf_parse_model.proofs.ByHash.{ordered_again}
 use Rattle.protobuf_parse_model.proofs.Tables.{adds_one}
 use Rattle.protobuf_parse_model.proofs.scope.declare.put_again.Goals as goal
+
+pub invariant_of-table : goal.invariant_of-table
+invariant_of-table c = record {
+  ordered = λ e. c.args.table.now.ordered (c.stays_in_order-table.ensures.was e);
+}
 
 pub invariant_of-table-2 : goal.invariant_of-table-2
 invariant_of-table-2 c =
     let full = string_bytes c.args.name in
     let d = c.args.declaration in
-    let kept = subst (λ (s : Text). c.stays_in_order-in_order.result ≡ true → (text : Text)
+    let stays = subst (λ (s : Text). c.stays_in_order-table.result ≡ true → (text : Text)
     → FilesAscend (declared_as c.args.table.now text
     ++ (if bytes_eq s text then d ∷ [] else []))) c.deref.ensures
-    c.stays_in_order-in_order.ensures in
+    c.stays_in_order-table.ensures.stays in
     record {
-      ordered = λ e text. subst FilesAscend
-          (sym (c.in_ok-add_alike.ensures text
-          ∙ ap (λ (v : Vec (BTreeMap ℕ OneHash)). declared_by_hash v.items text
-          ++ (if bytes_eq full text then d ∷ [] else []))
-          c.in_ok-list_repeated.ensures.same)) (kept e text);
+      ordered = λ e. ordered_again c.list_repeated.new.table c.add_alike.new.maps.items full d
+          c.add_alike.result c.add_alike.ensures.ok c.add_alike.ensures.err
+          (λ text. subst (λ (v : Vec (BTreeMap ℕ OneHash)).
+          FilesAscend (declared_by_hash v.items text
+          ++ (if bytes_eq full text then d ∷ [] else [])))
+          (sym c.in_ok-list_repeated.ensures.same)
+          (stays (sym c.in_ok-list_repeated.ensures.order ∙ e) text)) e;
     }
 
 pub returns : goal.returns
@@ -37,9 +46,10 @@ returns c =
     let listed_by : ListsOne old repeated c.deref-2.result.now d.file =
     record { kept = relists.kept; earlier = relists.earlier; again = relists.again } in
     let lists = subst (λ (s : Text). ListsOne old repeated s d.file) c.deref-2.ensures listed_by in
-    adds_one old _ full d
-    (λ text. c.in_ok-add_alike.ensures text
+    on_ok_weaker c.add_alike.result
+    (λ adds. adds_one old _ full d
+    (λ text. adds text
     ∙ ap (λ (v : Vec (BTreeMap ℕ OneHash)). declared_by_hash v.items text
     ++ (if bytes_eq full text then d ∷ [] else []))
     c.in_ok-list_repeated.ensures.same)
-    lists
+    lists) c.add_alike.ensures.ok
