@@ -1,7 +1,7 @@
 -- The custom options of a file, by its sets of options: what they add to its faults, and to its
 -- descriptor.
 --
--- A custom option is one whose name is not a single plain part: as a rule a part of it stands in
+-- A custom option is one whose name is not a single direct part: as a rule a part of it stands in
 -- parentheses (Protocol Buffers Language Specification, "Option"; Protocol Buffers Language Guide,
 -- "Custom Options"). It stands in one of the file's sets of options, and its name is looked up from
 -- the scope of that set alone. So all that is wrong in a file is wrong besides custom options or in

@@ -5,8 +5,9 @@ use Rattle.std.specs.Borrow.{Bor}
 use Rattle.protobuf_parse_syntax.specs.Trees.{ConstantSyntax, constant_syntax}
 use Rattle.protobuf_parse_syntax.specs.declared.tree.constant.ProtobufConstant.{ProtobufConstant}
 use Rattle.protobuf_parse_model.specs.BuiltinOptions as spec
-use Rattle.protobuf_parse_model.specs.BuiltinOptions.{Words, a_text, a_truth, a_word}
-use Rattle.protobuf_parse_model.specs.BuiltinOptions.{Table}
+use Rattle.protobuf_parse_model.specs.BuiltinOptions.{Table, a_text, a_truth, a_word}
+use Rattle.protobuf_parse_model.specs.Words.{Words, words_of, optimize_modes, c_types, js_types}
+use Rattle.protobuf_parse_model.specs.Words.{idempotency_levels}
 use Rattle.protobuf_parse_model.specs.Descriptors.{Text}
 use Rattle.protobuf_parse_elaboration.specs.declared.constructs.options.tables.BuiltinKind.{BuiltinKind}
 use Rattle.protobuf_parse_elaboration.specs.declared.constructs.options.tables.BuiltinKind.TheVariants as kind
@@ -20,7 +21,10 @@ constant_seen c = constant_syntax c.now
 abbrev pub kind_seen : BuiltinKind → spec.BuiltinKind
 kind_seen kind.Text = a_text
 kind_seen kind.Truth = a_truth
-kind_seen (kind.Word names) = a_word (map (λ (n : Bor (List ℕ)). n.now) names.now)
+kind_seen kind.OptimizeMode = a_word (words_of optimize_modes)
+kind_seen kind.CType = a_word (words_of c_types)
+kind_seen kind.JSType = a_word (words_of js_types)
+kind_seen kind.IdempotencyLevel = a_word (words_of idempotency_levels)
 
 abbrev pub entry_seen : Bor (List ℕ) × BuiltinKind → Text × spec.BuiltinKind
 entry_seen entry = (entry.0.now, kind_seen entry.1)

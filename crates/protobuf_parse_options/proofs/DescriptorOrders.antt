@@ -34,7 +34,7 @@ use Rattle.protobuf_parse_options.specs.OptionFields.{field_named, values_of_enu
 use Rattle.protobuf_parse_options.specs.OptionFields.{names_message}
 use Rattle.protobuf_parse_options.specs.CustomFaults.{custom_statement_faults}
 use Rattle.protobuf_parse_wire.specs.Encoded.{encoded}
-use Rattle.protobuf_parse_options.specs.OptionBytes.{known_customs, option_bytes}
+use Rattle.protobuf_parse_options.specs.OptionBytes.{customs_by_files, option_bytes}
 use Rattle.protobuf_parse_options.specs.SameLookups.{SameLookups}
 use Rattle.protobuf_parse_options.specs.CountedAlike.{message_names, enum_names, described_types}
 use Rattle.protobuf_parse_options.specs.CountedAlike.{described_extensions}
@@ -337,7 +337,7 @@ seen_from trees env reached seen scope = record {
 -- what its custom options mean
 abbrev pub meant_from : Trees → Environments → (reached seen : List Text) → Customs
 meant_from trees env reached seen =
-    known_customs (descriptors_at trees env reached) (descriptors_at trees env seen)
+    customs_by_files (descriptors_at trees env reached) (descriptors_at trees env seen)
 
 module _ (trees : Trees) (env : Environments) (reached reached' seen seen' : List Text)
     (files : HasFileScopes trees env) (r : AreReordered trees reached reached' seen seen') where

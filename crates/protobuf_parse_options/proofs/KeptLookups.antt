@@ -35,7 +35,7 @@ use Rattle.protobuf_parse_options.specs.CustomFaults.{constant_faults, list_faul
 use Rattle.protobuf_parse_options.specs.CustomFaults.{part_faults, step_faults, path_faults}
 use Rattle.protobuf_parse_options.specs.CustomFaults.{custom_name_faults}
 use Rattle.protobuf_parse_options.specs.MoreFiles.{KeepsLookups, LookupsKeepMeaning}
-use Rattle.protobuf_parse_options.proofs.Writable.{no_left, no_right, plain_step_has_fault}
+use Rattle.protobuf_parse_options.proofs.Writable.{no_left, no_right, direct_step_has_fault}
 use Rattle.protobuf_parse_options.specs.CustomFaults.{option_faults_at, custom_statement_faults}
 use Rattle.protobuf_parse_options.proofs.Refusing.{none_wrong, none_placed}
 
@@ -358,7 +358,7 @@ module _ (at at' : OptionScope) (keeps : KeepsLookups at at') where
   named_kept construct value (builtin name) h = nothing_kept
   named_kept construct value (custom []) h = nothing_kept
   named_kept construct value (custom (direct name ∷ ps)) h =
-      absurd (plain_step_has_fault construct name h)
+      absurd (direct_step_has_fault construct name h)
   named_kept construct value (custom (extension name ∷ ps)) h =
       path_kept (option_path_text (extension name ∷ ps)) value (options_message construct)
       (extension name ∷ ps) h

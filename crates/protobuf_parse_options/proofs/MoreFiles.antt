@@ -26,7 +26,7 @@ use Rattle.protobuf_parse_options.specs.DescriptorsByPath.{Environments, describ
 use Rattle.protobuf_parse_options.specs.DescriptorsByPath.{descriptors_at}
 use Rattle.protobuf_parse_options.specs.DescriptorsByPath.{HasFileScopes, HaveSameMembers}
 use Rattle.protobuf_parse_options.specs.DescriptorsByPath.{AreWithin}
-use Rattle.protobuf_parse_options.specs.MoreFiles.{KeepsLookups, known_at, MoreFilesKeepMeaning}
+use Rattle.protobuf_parse_options.specs.MoreFiles.{KeepsLookups, option_scope_at, MoreFilesKeepMeaning}
 use Rattle.protobuf_parse_options.proofs.DescriptorOrders.{fields-same, values-same, messages-same}
 use Rattle.protobuf_parse_options.proofs.KeptLookups.{lookups_keep_meaning}
 
@@ -153,8 +153,8 @@ module _ (trees : Trees) (env : Environments) (files : HasFileScopes trees env)
   inside p h = sym (members p) ∙ h
 
   pub lookups_kept : (visible : List FileDescriptor) (scope : Scope)
-      → KeepsLookups (known_at trees env reached visible scope)
-      (known_at trees env more visible scope)
+      → KeepsLookups (option_scope_at trees env reached visible scope)
+      (option_scope_at trees env more visible scope)
   lookups_kept visible scope = record {
     fields = λ message name f h.
         sym (fields-same trees env files more
@@ -175,6 +175,6 @@ module _ (trees : Trees) (env : Environments) (files : HasFileScopes trees env)
 
 pub more_files_keep_meaning : MoreFilesKeepMeaning
 more_files_keep_meaning trees env reached more files within none visible scope construct os clean =
-    lookups_keep_meaning (known_at trees env reached visible scope)
-    (known_at trees env more visible scope)
+    lookups_keep_meaning (option_scope_at trees env reached visible scope)
+    (option_scope_at trees env more visible scope)
     (lookups_kept trees env files reached more within none visible scope) construct os clean

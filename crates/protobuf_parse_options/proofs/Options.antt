@@ -61,7 +61,7 @@ use Rattle.protobuf_parse_wire.proofs.Ranges.{in_range}
 use Rattle.protobuf_parse_wire.proofs.Again as again
 use Rattle.protobuf_parse_elaboration.proofs.Lookups.{found_is, meaning_declared}
 use Rattle.protobuf_parse_options.proofs.Writable.{no_left, no_right, number_kept}
-use Rattle.protobuf_parse_options.proofs.Writable.{plain_step_has_fault}
+use Rattle.protobuf_parse_options.proofs.Writable.{direct_step_has_fault}
 use Rattle.protobuf_parse_options.specs.CustomFaults.{option_faults_at}
 use Rattle.protobuf_parse_options.proofs.Refusing.{none_wrong}
 
@@ -505,7 +505,7 @@ custom_suits : (at : OptionScope) → IsReadable at
     (path_items at value (options_message construct) parts)
 custom_suits at r construct value [] e = tt
 custom_suits at r construct value (direct name ∷ ps) e =
-    absurd (plain_step_has_fault construct name e)
+    absurd (direct_step_has_fault construct name e)
 custom_suits at r construct value (extension name ∷ ps) e =
     path_suits at r (option_path_text (extension name ∷ ps)) value (options_message construct)
     (extension name ∷ ps) e

@@ -35,7 +35,7 @@ use Rattle.protobuf_parse_wire.specs.Views.{entries_of_list}
 use Rattle.protobuf_parse_options.specs.NamesAlike.{HasPackageName}
 use Rattle.protobuf_parse_options.specs.OptionDepth.{TextsAreNotTooDeep}
 use Rattle.protobuf_parse_options.specs.Recovery.{plainly, plain_at, AreReachedFiles, HasCustom}
-use Rattle.protobuf_parse_options.specs.Recovery.{OptionsAreRecovered, PlainOptionsAreNoBytes}
+use Rattle.protobuf_parse_options.specs.Recovery.{OptionsAreRecovered, BuiltinOptionsAreNoBytes}
 use Rattle.protobuf_parse_options.proofs.Entered.{declared_entered, held_entered, described}
 use Rattle.protobuf_parse_options.proofs.Entered.{describes}
 use Rattle.protobuf_parse_options.proofs.Sound.{SoundFile, text_sound, package_named}
@@ -44,7 +44,7 @@ use Rattle.protobuf_parse_options.proofs.EnumNumbers.{SmallFile, file_small, val
 use Rattle.protobuf_parse_options.proofs.OptionBytes.{none_of, option_bytes_spell}
 use Rattle.protobuf_parse_options.proofs.OptionDepth.{never_too_deep}
 use Rattle.protobuf_parse_options.proofs.Options.{options_are_read}
-use Rattle.protobuf_parse_options.proofs.Writable.{no_left, plain_step_has_fault}
+use Rattle.protobuf_parse_options.proofs.Writable.{no_left, direct_step_has_fault}
 use Rattle.protobuf_parse_options.specs.CustomFaults.{option_faults_at}
 use Rattle.protobuf_parse_options.proofs.Refusing.{none_wrong, unless_empty}
 
@@ -99,7 +99,7 @@ custom_of_message : (at : OptionScope) (construct : Construct) (value : Constant
     → custom_faults at construct value (part ∷ parts) ≡ []
     → names_message at.files (options_message construct) ≡ true
 custom_of_message at construct value (direct name) parts h =
-    absurd (plain_step_has_fault construct name h)
+    absurd (direct_step_has_fault construct name h)
 custom_of_message at construct value (extension name) parts h =
     first_extends at (option_path_text (extension name ∷ parts)) value
     (options_message construct) name parts h
@@ -203,8 +203,8 @@ nothing_set at construct (o ∷ os) plain =
     (λ part parts e. plain (o, here, part, parts, e)))
     ∙ nothing_set at construct os (λ has. plain (has.0, there has.1, has.2, has.3, has.4))
 
-pub plain_options_are_no_bytes : PlainOptionsAreNoBytes
-plain_options_are_no_bytes files visible s plain =
+pub builtin_options_are_no_bytes : BuiltinOptionsAreNoBytes
+builtin_options_are_no_bytes files visible s plain =
     let at = scope_of files visible s in
     unless_empty (custom_statement_faults at s.construct s.statements) _
     (ap (λ items. encoded (entries_of_list items))

@@ -1,18 +1,19 @@
 -- What has small numbers is found to have them.
-use Rattle.std.proofs.Common.{◌≡◌, ℕ, zero, suc, ◌<◌, ℤ, Bool, true, false, List, [], ◌∷◌, ◌++◌}
-use Rattle.std.proofs.Common.{map, flat_map, length, take, get_or, Option, Some, option_map, cond}
-use Rattle.std.proofs.Common.{bytes_eq, refl, sym, subst, arith, ap, ◌∙◌}
+use Rattle.std.proofs.Common.{◌≡◌, ℕ, zero, suc, ℤ, Bool, true, false, List, [], ◌∷◌, ◌++◌, map}
+use Rattle.std.proofs.Common.{flat_map, Option, Some, option_map, cond, bytes_eq, refl, sym, subst}
+use Rattle.std.proofs.Common.{ap, ◌∙◌}
 use Rattle.std.specs.Int.{w32}
 use Rattle.std.specs.Int.RustNames.{FitsSigned}
 use Rattle.std.specs.Prelude.{option_to_list, slice_get}
 use Rattle.std.specs.List.{AllByRecursion, find}
 use Rattle.std.specs.Borrow.{Bor}
 use Rattle.protobuf_parse_model.specs.declared.descriptor.EnumDescriptorProto.{EnumDescriptorProto}
+use Rattle.protobuf_parse_model.specs.declared.descriptor.EnumValueDescriptorProto.{EnumValueDescriptorProto}
 use Rattle.protobuf_parse_model.specs.Declarations.{Declared}
 use Rattle.protobuf_parse_model.specs.Descriptors.{Text, EnumDescriptor, EnumValueDescriptor}
-use Rattle.protobuf_parse_model.specs.Descriptors.{FileDescriptor}
+use Rattle.protobuf_parse_model.specs.Descriptors.{FileDescriptor, enum_value_view, enum_view}
 use Rattle.protobuf_parse_options.specs.declared.spots.declared.Spotted.{Spotted}
-use Rattle.protobuf_parse_options.specs.HoldingParts.{enums_spotted}
+use Rattle.protobuf_parse_options.specs.HoldingParts.{spotted_by}
 use Rattle.protobuf_parse_options.specs.Spots.{spotted_enums}
 use Rattle.protobuf_parse_options.specs.Views.{enum_declared, number_among, values_among}
 use Rattle.protobuf_parse_options.specs.Views.{values_if_named}
@@ -23,23 +24,14 @@ use Rattle.protobuf_parse_model.specs.Tables.{picked}
 use Rattle.protobuf_parse_options.proofs.Spotting.{declared_of, enums_without}
 use Rattle.protobuf_parse_options.proofs.SoundSets.{both}
 
-pub one_more : {X : Type 0} (view : X → EnumValueDescriptor) (xs : List X) (i : ℕ) (x : X)
-    → i < length xs → x ≡ get_or xs i x → FitsSigned w32 (view x).number
-    → AreSmall (map view (take i xs)) → AreSmall (map view (take (suc i) xs))
-one_more view [] i x lt is fits before = absurd (omega arith)
-one_more {X = X} view (y ∷ ys) zero x lt is fits before =
-    (subst (λ (z : X). FitsSigned w32 (view z).number) is fits, tt)
-one_more view (y ∷ ys) (suc i) x lt is fits before =
-    (before.0, one_more view ys i x (omega arith) is fits before.1)
+values_small : (vs : List EnumValueDescriptorProto) → AreSmall (map enum_value_view vs)
+values_small [] = tt
+values_small (v ∷ vs) = (v.fits, values_small vs)
 
-pub enum_more : {X : Type 0} (view : X → Declared EnumDescriptor) (xs : List X) (i : ℕ) (x : X)
-    → i < length xs → x ≡ get_or xs i x → AreSmall (view x).what.value
-    → HaveSmall (map view (take i xs)) → HaveSmall (map view (take (suc i) xs))
-enum_more view [] i x lt is fit before = absurd (omega arith)
-enum_more {X = X} view (y ∷ ys) zero x lt is fit before =
-    (subst (λ (z : X). AreSmall (view z).what.value) is fit, tt)
-enum_more view (y ∷ ys) (suc i) x lt is fit before =
-    (before.0, enum_more view ys i x (omega arith) is fit before.1)
+pub enums_small : (es : List (Spotted (Bor EnumDescriptorProto)))
+    → HaveSmall (map enum_declared es)
+enums_small [] = tt
+enums_small (e ∷ es) = (values_small e.what.now.value.items, enums_small es)
 
 abbrev number_of : Option EnumValueDescriptor → Option ℤ
 number_of o = option_map (λ (v : EnumValueDescriptor). v.number) o
@@ -113,12 +105,12 @@ picked_small fs ns h = small_values (picked fs ns) (flat_map declared_enums (pic
     (small_files (picked fs ns) (small_picked fs ns h))
 
 known_without : (ks : List (Spotted (Bor EnumDescriptorProto)))
-    → map enum_declared ks ≡ map declared_of (enums_spotted ks)
+    → map enum_declared ks ≡ map declared_of (spotted_by enum_view ks)
 known_without [] = refl
 known_without (k ∷ ks) = ap (λ es. enum_declared k ∷ es) (known_without ks)
 
 -- of a file whose enums were listed
 pub small_file : (f : FileDescriptor) (ks : List (Spotted (Bor EnumDescriptorProto)))
-    → enums_spotted ks ≡ spotted_enums f → HaveSmall (map enum_declared ks) → IsSmallFile f
+    → spotted_by enum_view ks ≡ spotted_enums f → HaveSmall (map enum_declared ks) → IsSmallFile f
 small_file f ks is small = subst HaveSmall (known_without ks ∙ ap (map declared_of) is
     ∙ enums_without f) small

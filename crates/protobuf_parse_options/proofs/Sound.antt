@@ -9,8 +9,8 @@ use Rattle.std.specs.Int.{w32}
 use Rattle.std.specs.Int.RustNames.{FitsSigned}
 use Rattle.std.proofs.lemmas.Bool.{leb-true}
 use Rattle.std.proofs.lemmas.List.{length-take-le}
-use Rattle.protobuf_parse_base.specs.Relations.{Nothing, Never, Level, Then, Either, Many}
-use Rattle.protobuf_parse_base.specs.Relations.{Separated, none, more, Unless, At, somes}
+use Rattle.protobuf_parse_grammar.specs.Relations.{Nothing, Never, Level, Then, Either, Many}
+use Rattle.protobuf_parse_grammar.specs.Relations.{Separated, none, more, Unless, At, somes}
 use Rattle.protobuf_parse_lexer.specs.Tokens.{Lexeme}
 use Rattle.protobuf_parse_lexer.specs.declared.lexer.token.Place.{Place}
 use Rattle.protobuf_parse_lexer.specs.declared.lexer.token.TokenKind.{TokenKind}
@@ -26,7 +26,7 @@ use Rattle.protobuf_parse_syntax.specs.Grammar.{table_words, statement_words, la
 use Rattle.protobuf_parse_syntax.specs.Grammar.{small_at, negative, AtMost, Item, Statements}
 use Rattle.protobuf_parse_syntax.specs.Grammar.{Braced, IsIdent, IsDotted, option_name}
 use Rattle.protobuf_parse_syntax.specs.Grammar.{IsOptionName, IsAssignment, IsOption, AreOptions}
-use Rattle.protobuf_parse_syntax.specs.Grammar.{IsFieldNumber, IsNumberUpTo, PlainFieldOf, GroupOf}
+use Rattle.protobuf_parse_syntax.specs.Grammar.{IsFieldNumber, IsNumberUpTo, NormalFieldOf, GroupOf}
 use Rattle.protobuf_parse_syntax.specs.Grammar.{AfterLabel, FieldOf, IsField, IsOneofField}
 use Rattle.protobuf_parse_syntax.specs.Grammar.{IsOneofStatement, IsOneof, IsExtend, IsEnumNumber}
 use Rattle.protobuf_parse_syntax.specs.Grammar.{IsEnumValue, IsEnumStatement, IsEnum}
@@ -305,10 +305,10 @@ options d = either (do any; options ← separated (assignment d); any; nothing o
 
 -- ---- fields
 
-plain_field : (d : ℕ) (T : List Lexeme → tree.TypeSyntax → Type 0) (place : Place)
-    (label : Option Label) → Says (PlainFieldOf d T place label) SoundField
-unfolding PlainFieldOf
-plain_field d T place label =
+normal_field : (d : ℕ) (T : List Lexeme → tree.TypeSyntax → Type 0) (place : Place)
+    (label : Option Label) → Says (NormalFieldOf d T place label) SoundField
+unfolding NormalFieldOf
+normal_field d T place label =
     do type_ ← any; name ← any; any; number ← any; options ← options d; any; nothing options.1
 
 fields_sound : (fs : List FieldStatementSyntax) → AllByRecursion SoundField fs
@@ -330,14 +330,14 @@ group_of place label f = do
 after_label : (d : ℕ) {F : List Lexeme → FieldStatementSyntax → Type 0} (place : Place)
     (label : Option Label) → Says F SoundField → Says (AfterLabel d F place label) SoundField
 unfolding AfterLabel
-after_label d place label f = either (group_of place label f) (plain_field d _ place label)
+after_label d place label f = either (group_of place label f) (normal_field d _ place label)
 
 field_of : (syntax : Syntax) (d : ℕ) {F : List Lexeme → FieldStatementSyntax → Type 0}
     → Says F SoundField → Says (FieldOf syntax d F) SoundField
 unfolding FieldOf
 field_of Proto2 d f =
     at_place (λ t. either (do l ← any; after_label (suc d) t.place (Some l.0) f)
-    (plain_field (suc d) _ t.place None))
+    (normal_field (suc d) _ t.place None))
 field_of Proto3 d f =
     at_place (λ t. either (do l ← any; after_label (suc d) t.place (Some l.0) f)
     (unless {test = is_one_of (words (table_words labels ++ statement_words))}

@@ -26,14 +26,14 @@ abbrev parts_of : List ProtobufOptionNamePart → List OptionPartSyntax
 parts_of xs = map option_part_syntax xs
 
 -- a plain part
-pub plain_blamed : (e : OptionFailure) (at : OptionScope) (construct : Construct)
+pub direct_blamed : (e : OptionFailure) (at : OptionScope) (construct : Construct)
     (value : ConstantSyntax) (xs : List ProtobufOptionNamePart) (x : ProtobufOptionNamePart)
     (s : Name) (name : Text) → 1 ≤ length xs → x ≡ get_or xs 0 x → x ≡ Direct s
     → name ≡ name_bytes s
     → Refuses e (builtin_step_faults (table_of construct) name)
     → Refuses e (custom_faults at construct value (map option_part_syntax xs))
-plain_blamed e at construct value [] x s name some is plain named h = absurd (omega arith)
-plain_blamed e at construct value (y ∷ ys) x s name some is plain named h =
+direct_blamed e at construct value [] x s name some is plain named h = absurd (omega arith)
+direct_blamed e at construct value (y ∷ ys) x s name some is plain named h =
     let first : option_part_syntax y ≡ direct name = ap option_part_syntax (sym is ∙ plain)
     ∙ ap direct (sym named) in
     subst (λ (p : OptionPartSyntax). Refuses e

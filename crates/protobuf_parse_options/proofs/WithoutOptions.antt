@@ -11,7 +11,7 @@ use Rattle.protobuf_parse_model.specs.Environment.{CustomFaults, CustomBytes, En
 use Rattle.protobuf_parse_elaboration.specs.FileDescriptor.{file_of}
 use Rattle.protobuf_parse_wire.specs.Reading.{reader}
 use Rattle.protobuf_parse_wire.specs.Encoded.{encoded}
-use Rattle.protobuf_parse_options.specs.OptionBytes.{known_customs, option_bytes}
+use Rattle.protobuf_parse_options.specs.OptionBytes.{customs_by_files, option_bytes}
 use Rattle.protobuf_parse_options.specs.DescriptorsByPath.{Environments, described_at}
 use Rattle.protobuf_parse_options.specs.DescriptorsByPath.{descriptors_at}
 use Rattle.protobuf_parse_options.specs.WithoutOptions.{bare_file, ReadingIgnoresOptions}
@@ -40,7 +40,8 @@ meaning_ignores_options files files' visible visible' same seen scope construct 
 pub customs_ignore_options : CustomsIgnoreOptions
 customs_ignore_options files files' visible visible' same seen =
     let alike = lookups-alike files files' visible visible' same seen in
-    let faults : (known_customs files visible).faults ≡ (known_customs files' visible').faults =
+    let faults : (customs_by_files files visible).faults
+    ≡ (customs_by_files files' visible').faults =
     fun_ext (λ (construct : Construct). fun_ext
     (λ (scope : Scope). fun_ext
     (λ (os : List OptionSyntax). faults-same (seen_from files visible scope)
@@ -57,7 +58,7 @@ customs_ignore_options files files' visible visible' same seen =
     (meaning_ignores_options files files' visible visible' same seen scope construct os)))) in
     ap (λ (fs : CustomFaults). record { faults = fs; bytes = option_bytes files visible }) faults
     ∙ ap (λ (bs : CustomBytes). record
-    { faults = (known_customs files' visible').faults; bytes = bs }) bytes
+    { faults = (customs_by_files files' visible').faults; bytes = bs }) bytes
 
 -- what a path's tree becomes, if there is one
 at-path : (env env' : Environments) → DifferOnlyInCustoms env env'

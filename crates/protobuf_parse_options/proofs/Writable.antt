@@ -228,9 +228,9 @@ step_has_fault true b x y z e = absurd cc
 step_has_fault false true x y z e = absurd cc
 step_has_fault false false x y z e = absurd cc
 
-pub plain_step_has_fault : (construct : Construct) (name : Text)
+pub direct_step_has_fault : (construct : Construct) (name : Text)
     → builtin_step_faults (table_of construct) name ≡ [] → ⊥
-plain_step_has_fault construct name e =
+direct_step_has_fault construct name e =
     step_has_fault (bytes_eq name (codes "uninterpreted_option"))
     (stands_in name (option_names_in (table_of construct)))
     (record { kind = UninterpretedOptionName; what = name })
@@ -243,7 +243,7 @@ custom_fit : (at : OptionScope) → HasSmallValues at.files
     → AreFit (path_items at value (options_message construct) parts)
 custom_fit at small construct value [] e = tt
 custom_fit at small construct value (direct name ∷ ps) e =
-    absurd (plain_step_has_fault construct name e)
+    absurd (direct_step_has_fault construct name e)
 custom_fit at small construct value (extension name ∷ ps) e =
     path_fit at small (option_path_text (extension name ∷ ps)) value (options_message construct)
     (extension name ∷ ps) e

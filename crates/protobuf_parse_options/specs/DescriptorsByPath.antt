@@ -11,7 +11,7 @@ use Rattle.protobuf_parse_model.specs.Linking.{link_faults}
 use Rattle.protobuf_parse_model.specs.Environment.{Environment}
 use Rattle.protobuf_parse_elaboration.specs.FilesByPath.{Trees, among, trees_at}
 use Rattle.protobuf_parse_elaboration.specs.FileDescriptor.{file_of}
-use Rattle.protobuf_parse_options.specs.OptionBytes.{known_customs}
+use Rattle.protobuf_parse_options.specs.OptionBytes.{customs_by_files}
 use Rattle.protobuf_parse_options.specs.NamesAlike.{HasPackageName}
 
 -- the environment of the file at each path, by its tree
@@ -52,5 +52,5 @@ abbrev pub OrderMakesNoDifference : Type 0
 OrderMakesNoDifference =
     (trees : Trees) (env : Environments) (reached reached' seen seen' : List Text)
     → HasFileScopes trees env → AreReordered trees reached reached' seen seen'
-    → known_customs (descriptors_at trees env reached) (descriptors_at trees env seen)
-    ≡ known_customs (descriptors_at trees env reached') (descriptors_at trees env seen')
+    → customs_by_files (descriptors_at trees env reached) (descriptors_at trees env seen)
+    ≡ customs_by_files (descriptors_at trees env reached') (descriptors_at trees env seen')

@@ -25,8 +25,8 @@ use Rattle.protobuf_parse_wire.specs.Writing.{AreWritable}
 
 abbrev pub option_scope_view : OptionViewpoint → OptionScope
 option_scope_view p = record {
-  files = files_seen p.known.now.reach;
-  visible = files_seen p.known.now.sight;
+  files = files_seen p.customs.now.reach;
+  visible = files_seen p.customs.now.sight;
   scope = name_texts p.scope.now;
 }
 

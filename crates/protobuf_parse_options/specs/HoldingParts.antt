@@ -9,7 +9,6 @@ use Rattle.std.specs.BTreeMap.{BTreeMap}
 use Rattle.std.specs.Option.{option_or}
 use Rattle.protobuf_parse_model.specs.declared.descriptor.DescriptorProto.{DescriptorProto}
 use Rattle.protobuf_parse_model.specs.declared.descriptor.EnumDescriptorProto.{EnumDescriptorProto}
-use Rattle.protobuf_parse_model.specs.declared.descriptor.FieldDescriptorProto.{FieldDescriptorProto}
 use Rattle.protobuf_parse_model.specs.Descriptors.{Text, FileDescriptor, FieldDescriptor}
 use Rattle.protobuf_parse_model.specs.Descriptors.{EnumDescriptor, MessageDescriptor, message_view}
 use Rattle.protobuf_parse_model.specs.Descriptors.{enum_view, field_view}
@@ -17,7 +16,6 @@ use Rattle.protobuf_parse_options.specs.declared.spots.declared.Spotted.{Spotted
 use Rattle.protobuf_parse_options.specs.declared.spots.members.Members.{Members}
 use Rattle.protobuf_parse_options.specs.declared.spots.picked.PickedFiles.{PickedFiles}
 use Rattle.protobuf_parse_options.specs.declared.spots.Spot.{Spot}
-use Rattle.protobuf_parse_options.specs.Views.{field_seen}
 use Rattle.protobuf_parse_options.specs.Spots.{Inside, SpottedView, inside_file, enums_inside}
 use Rattle.protobuf_parse_options.specs.SpotsInside.{down, one_inside, messages_inside}
 use Rattle.protobuf_parse_options.specs.Positioned.{field_inside, number_inside}
@@ -46,17 +44,12 @@ message_seen m = message_view m.now
 abbrev pub enum_seen : Bor EnumDescriptorProto → EnumDescriptor
 enum_seen e = enum_view e.now
 
+abbrev pub spotted_by : {T U : Type 0} → (T → U) → List (Spotted (Bor T)) → List (SpottedView U)
+spotted_by {T = T} seen ks = map (spotted_view (λ (k : Bor T). seen k.now)) ks
+
 abbrev pub messages_spotted : List (Spotted (Bor DescriptorProto))
     → List (SpottedView MessageDescriptor)
-messages_spotted ks = map (spotted_view message_seen) ks
-
-abbrev pub enums_spotted : List (Spotted (Bor EnumDescriptorProto))
-    → List (SpottedView EnumDescriptor)
-enums_spotted ks = map (spotted_view enum_seen) ks
-
-abbrev pub extensions_spotted : List (Spotted (Bor FieldDescriptorProto))
-    → List (SpottedView FieldDescriptor)
-extensions_spotted ks = map (spotted_view field_seen) ks
+messages_spotted ks = spotted_by message_view ks
 
 -- those of what the code's list has
 abbrev pub spot_of : {T : Type 0} → (T → List Text) → ℕ → Spotted (Bor T) → SpotView

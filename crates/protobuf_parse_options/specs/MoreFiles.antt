@@ -49,9 +49,9 @@ LookupsKeepMeaning =
 
 -- what is seen from a scope in a file that sees the files `visible`, by the descriptors of the
 -- paths
-abbrev pub known_at : Trees → Environments → (paths : List Text) (visible : List FileDescriptor)
+abbrev pub option_scope_at : Trees → Environments → (paths : List Text) (visible : List FileDescriptor)
     → Scope → OptionScope
-known_at trees env paths visible scope = record {
+option_scope_at trees env paths visible scope = record {
   files = descriptors_at trees env paths;
   visible = visible;
   scope = scope;
@@ -65,6 +65,6 @@ MoreFilesKeepMeaning =
     → HasFileScopes trees env → AreWithin reached more → link_faults (trees_at trees more) ≡ []
     → (visible : List FileDescriptor) (scope : Scope) (construct : Construct)
     (os : List OptionSyntax)
-    → (let at : OptionScope = known_at trees env reached visible scope in
+    → (let at : OptionScope = option_scope_at trees env reached visible scope in
     custom_statement_faults at construct os ≡ []
-    → KeepsMeaning at (known_at trees env more visible scope) construct os)
+    → KeepsMeaning at (option_scope_at trees env more visible scope) construct os)

@@ -25,8 +25,8 @@ option_bytes files visible = λ construct scope os.
     spelled_at (record { files = files; visible = visible; scope = scope }) construct os
 
 -- what custom options become in a file that reaches the first files and sees the second
-abbrev pub known_customs : (files visible : List FileDescriptor) → Customs
-known_customs files visible = record {
+abbrev pub customs_by_files : (files visible : List FileDescriptor) → Customs
+customs_by_files files visible = record {
   faults = λ construct scope os. custom_statement_faults
       (record { files = files; visible = visible; scope = scope })
       construct os;

@@ -1,10 +1,11 @@
 -- Which field each part of an option's name means, and what values a field takes.
 --
--- A name begins at the options message of its construct. A plain part means a field of the message,
--- a part in parentheses an extension of it, looked up as a type is: from the scope outward, among
--- those of the files that the file sees. In a constant for a message a plain name means a field of
--- it, and one in brackets an extension, looked up in the same way. The messages and enums that a
--- field's type names are those of the descriptors that declare them, in all files reached.
+-- A name begins at the options message of its construct. A direct part means a field of the
+-- message, a part in parentheses an extension of it, looked up as a type is: from the scope
+-- outward, among those of the files that the file sees. In a constant for a message a direct name
+-- means a field of it, and one in brackets an extension, looked up in the same way. The messages
+-- and enums that a field's type names are those of the descriptors that declare them, in all files
+-- reached.
 -- Protocol Buffers Language Guide (proto2), "Custom Options" (https://protobuf.dev).
 use Rattle.std.specs.Prelude.{ℤ, Bool, ◌&&◌, List, [], ◌++◌, map, flat_map, codes, bytes_eq, Option}
 use Rattle.std.specs.Prelude.{Some, None, unwrap_or, option_map, if◌then◌else◌}

@@ -97,8 +97,8 @@ OptionsAreRecovered =
     → IsRecovered trees sees reached reached p t s
 
 -- A set that has none becomes no bytes.
-abbrev pub PlainOptionsAreNoBytes : Type 0
-PlainOptionsAreNoBytes =
+abbrev pub BuiltinOptionsAreNoBytes : Type 0
+BuiltinOptionsAreNoBytes =
     (files visible : List FileDescriptor) (s : OptionSet)
     → (HasCustom s.statements → ⊥)
     → option_bytes files visible s.construct s.scope s.statements ≡ []

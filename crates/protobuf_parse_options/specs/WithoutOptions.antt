@@ -21,7 +21,7 @@ use Rattle.protobuf_parse_elaboration.specs.FilesByPath.{Trees}
 use Rattle.protobuf_parse_wire.specs.Reading.{reader}
 use Rattle.protobuf_parse_options.specs.CustomOptions.{denotes}
 use Rattle.protobuf_parse_options.specs.DescriptorsByPath.{Environments, descriptors_at}
-use Rattle.protobuf_parse_options.specs.OptionBytes.{known_customs}
+use Rattle.protobuf_parse_options.specs.OptionBytes.{customs_by_files}
 use Rattle.protobuf_parse_options.specs.Recovery.{HaveDistinctNumbers}
 
 -- ---- descriptors without their options, and without those of what stands in them
@@ -102,7 +102,7 @@ abbrev pub CustomsIgnoreOptions : Type 0
 CustomsIgnoreOptions =
     (files files' visible visible' : List FileDescriptor)
     → DifferOnlyInOptions files files' → DifferOnlyInOptions visible visible'
-    → known_customs files visible ≡ known_customs files' visible'
+    → customs_by_files files visible ≡ customs_by_files files' visible'
 
 -- ---- and of the files at paths, whatever custom options they set themselves
 
@@ -125,5 +125,5 @@ CustomsMakeNoDifference =
     → ((message : Text) (bytes : List ℕ)
     → reader (descriptors_at trees env reached) message bytes
     ≡ reader (descriptors_at trees env' reached) message bytes)
-    × (known_customs (descriptors_at trees env reached) (descriptors_at trees env seen)
-    ≡ known_customs (descriptors_at trees env' reached) (descriptors_at trees env' seen))
+    × (customs_by_files (descriptors_at trees env reached) (descriptors_at trees env seen)
+    ≡ customs_by_files (descriptors_at trees env' reached) (descriptors_at trees env' seen))

@@ -105,7 +105,7 @@ fn push_value_name(
         (constant_faults s (path_said option.now) f c)
         (out.old.items ++ value_bytes s f c) }
 {
-    let number = lookup::number_of_value(at.known, type_name_of(field), name);
+    let number = lookup::number_of_value(at.customs, type_name_of(field), name);
     check_value_name(alloc, field, name, number)?;
     if let Some(number) = number {
         push_item(alloc, out, field, EntryValue::Number(i128::from(number)))?;
@@ -223,8 +223,8 @@ fn push_field(
         (field_faults_of s (path_said option.now) message.now f)
         (out.old.items ++ given_field_bytes s message.now f) }
 {
-    let known = constant_field(alloc, at, message, &field.name)?;
-    push_given(&field.value, alloc, at, option, known, out)
+    let named = constant_field(alloc, at, message, &field.name)?;
+    push_given(&field.value, alloc, at, option, named, out)
 }
 
 /// As [`push_value`]. E23 where the field's number can't stand in a tag.

@@ -13,7 +13,7 @@ use protobuf_parse_syntax::{
     OptionStatement, ProtobufOption, ProtobufOptionName, ServiceStatement,
 };
 
-/// Whether a custom option is set in the file: one whose name is not a single plain part.
+/// Whether a custom option is set in the file: one whose name is not a single direct part.
 pub fn has_custom_option(tree: &FileTree) -> bool
     ensures { result ≡ list_any sets_custom (option_sets (view.file_syntax tree.now)) }
 {
@@ -64,7 +64,7 @@ impl MaySetCustom for OptionStatement {
 impl MaySetCustom for FieldStatement {
     ghost custom = { λ f. part.custom_in_field (view.field_statement_syntax f) };
 
-    #[tactic(auto, using(crate::proofs::CustomParts::options_any, protobuf_parse_syntax::proofs::FieldViews::views_plain, protobuf_parse_syntax::proofs::FieldViews::views_group, protobuf_parse_model::proofs::Levels::group_body_is))]
+    #[tactic(auto, using(crate::proofs::CustomParts::options_any, protobuf_parse_syntax::proofs::FieldViews::views_normal, protobuf_parse_syntax::proofs::FieldViews::views_group, protobuf_parse_model::proofs::Levels::group_body_is))]
     #[inline]
     fn has_custom(&self) -> bool {
         match self {
@@ -88,7 +88,7 @@ fn custom_in_group(fields: &[FieldStatement]) -> bool
     false
 }
 
-#[tactic(auto, using(crate::proofs::CustomParts::options_any, protobuf_parse_syntax::proofs::FieldViews::views_plain))]
+#[tactic(auto, using(crate::proofs::CustomParts::options_any, protobuf_parse_syntax::proofs::FieldViews::views_normal))]
 fn custom_in_grouped(field: &FieldStatement) -> bool
     ensures { result ≡ part.custom_in_grouped (view.field_statement_syntax field.now) }
 {

@@ -43,7 +43,7 @@ fn named_field<'a>(
         Gives (λ f. Some (field_seen f)) result (field_name_faults s message.now name.now)
         (field_named s.files message.now name.now) }
 {
-    match lookup::field_named(at.known, message, name) {
+    match lookup::field_named(at.customs, message, name) {
         Some(field) => Ok(field),
         None => Err(wrong(alloc, ElabErrorKind::UnknownFieldName, name)),
     }
@@ -62,7 +62,7 @@ fn named_extension<'a>(
         (extension_name_faults s.files message.now name.now (extension_meant s name.now))
         (extension_named s message.now name.now) }
 {
-    let Some(field) = lookup::extension_meant(alloc, at.known, at.scope, name)? else {
+    let Some(field) = lookup::extension_meant(alloc, at.customs, at.scope, name)? else {
         return Err(wrong(alloc, ElabErrorKind::ExtensionNotFound, name));
     };
     if !extends_message(at, message, field) {
@@ -77,7 +77,7 @@ fn extends_message(
     message: &str,
     field: &FieldDescriptorProto,
 ) -> bool
-    ensures { result ≡ extends_message (files_seen at.now.known.now.reach) message.now
+    ensures { result ≡ extends_message (files_seen at.now.customs.now.reach) message.now
         (field_view field.now) }
 {
     let Some(extendee) = &field.extendee else {

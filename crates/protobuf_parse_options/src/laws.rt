@@ -9,7 +9,7 @@ ghost use Rattle.protobuf_parse_options.specs.OptionDepth.{NeverTooDeep, TextsAr
 ghost use Rattle.protobuf_parse_options.specs.OptionLaw.{OptionsAreRead};
 ghost use Rattle.protobuf_parse_options.specs.Recovery.{OptionsAreRecovered};
 ghost use Rattle.protobuf_parse_options.specs.Recovery.{OptionsAreRecoveredAbove};
-ghost use Rattle.protobuf_parse_options.specs.Recovery.{PlainOptionsAreNoBytes};
+ghost use Rattle.protobuf_parse_options.specs.Recovery.{BuiltinOptionsAreNoBytes};
 ghost use Rattle.protobuf_parse_options.specs.WithoutOptions.{CustomsAreOptions};
 ghost use Rattle.protobuf_parse_options.specs.WithoutOptions.{CustomsIgnoreOptions};
 ghost use Rattle.protobuf_parse_options.specs.WithoutOptions.{CustomsMakeNoDifference};
@@ -74,7 +74,7 @@ pub fn options_are_not_read()
 pub fn options_are_recovered()
     ensures custom { OptionsAreRecovered }
     ensures above { OptionsAreRecoveredAbove }
-    ensures plain { PlainOptionsAreNoBytes }
+    ensures builtin { BuiltinOptionsAreNoBytes }
 {}
 
 /// Custom options in which nothing is wrong mean the same where more files are at hand than their

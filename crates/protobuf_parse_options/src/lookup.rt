@@ -11,26 +11,26 @@ ghost use Rattle.protobuf_parse_options.specs.Views.{number_among, undeclared};
 ghost use Rattle.protobuf_parse_options.specs.OptionFields.{field_named, names_message};
 ghost use Rattle.protobuf_parse_options.specs.OptionFields.{number_of_value};
 
-use crate::known_files::KnownFiles;
 use crate::spots::found::{field_of, first_extension, first_message, number_of};
+use crate::with_customs::WithCustoms;
 use protobuf_parse_base::multimap;
-use protobuf_parse_model::{EnumValueDescriptorProto, FieldDescriptorProto, full_name};
+use protobuf_parse_model::{EnumValueDescriptorProto, FieldDescriptorProto, Outward};
 use std::alloc::{AllocError, Global};
 
 // ---- fields of messages
 
 /// The field of that name of the message of that full name.
 pub fn field_named<'a>(
-    known: &KnownFiles<'a>,
+    customs: &WithCustoms<'a>,
     message: &str,
     name: &str,
 ) -> Option<&'a FieldDescriptorProto>
     ensures { option_map field_seen result ≡ field_named
-        (files_seen known.now.reach) message.now name.now }
+        (files_seen customs.now.reach) message.now name.now }
 {
     field_of(
-        &known.reach,
-        multimap::values(&known.spots.messages, message),
+        &customs.reach,
+        multimap::values(&customs.spots.messages, message),
         name,
     )
 }
@@ -51,20 +51,24 @@ pub fn field_among<'a>(
 }
 
 /// Whether a message has the full name.
-pub fn is_message(known: &KnownFiles<'_>, name: &str) -> bool
-    ensures { result ≡ names_message (files_seen known.now.reach) name.now }
+pub fn is_message(customs: &WithCustoms<'_>, name: &str) -> bool
+    ensures { result ≡ names_message (files_seen customs.now.reach) name.now }
 {
-    first_message(&known.reach, multimap::values(&known.spots.messages, name)).is_some()
+    first_message(
+        &customs.reach,
+        multimap::values(&customs.spots.messages, name),
+    )
+    .is_some()
 }
 
 // ---- values of enums
 
 /// The number of the value of that name, in the enum of that full name.
-pub fn number_of_value(known: &KnownFiles<'_>, enum_name: &str, name: &str) -> Option<i32>
-    ensures { result ≡ number_of_value (files_seen known.now.reach) enum_name.now name.now }
+pub fn number_of_value(customs: &WithCustoms<'_>, enum_name: &str, name: &str) -> Option<i32>
+    ensures { result ≡ number_of_value (files_seen customs.now.reach) enum_name.now name.now }
 {
-    let enums = multimap::values(&known.spots.enums, enum_name);
-    number_of(&known.reach, enums, name)
+    let enums = multimap::values(&customs.spots.enums, enum_name);
+    number_of(&customs.reach, enums, name)
 }
 
 /// The number of the first value of that name.
@@ -84,36 +88,33 @@ pub fn number_among(values: &[EnumValueDescriptorProto], name: &str) -> Option<i
 /// The extension that the name means in the scope.
 pub fn extension_meant<'a>(
     alloc: Global,
-    known: &KnownFiles<'a>,
+    customs: &WithCustoms<'a>,
     scope: &[&str],
     name: &str,
 ) -> Result<Option<&'a FieldDescriptorProto>, AllocError>
     ensures { IfOk result (λ f. option_map field_seen f ≡ undeclared
-        (meaning (flat_map declared_extensions (files_seen known.now.sight))
+        (meaning (flat_map declared_extensions (files_seen customs.now.sight))
         (name_texts scope.now) name.now)) }
 {
-    if name.starts_with('.') {
-        return Ok(declared(known, name));
-    }
-    let mut length = scope.len();
-    'scopes: while length > 0 {
-        let full_name = full_name(alloc, &scope[..length], name)?;
-        if let Some(field) = declared(known, &full_name) {
+    let mut names = Outward::new(alloc, scope, name)?;
+    'names: loop {
+        if let Some(field) = declared(customs, names.first()) {
             return Ok(Some(field));
         }
-        length -= 1;
+        match names.rest()? {
+            Some(rest) => names = rest,
+            None => return Ok(None),
+        }
     }
-    let full_name = full_name(alloc, &[], name)?;
-    Ok(declared(known, &full_name))
 }
 
 /// The extension of that full name.
-fn declared<'a>(known: &KnownFiles<'a>, name: &str) -> Option<&'a FieldDescriptorProto>
+fn declared<'a>(customs: &WithCustoms<'a>, name: &str) -> Option<&'a FieldDescriptorProto>
     ensures { option_map (extension_under_name name.now) result ≡ declared
-        (flat_map declared_extensions (files_seen known.now.sight)) name.now }
+        (flat_map declared_extensions (files_seen customs.now.sight)) name.now }
 {
     first_extension(
-        &known.sight,
-        multimap::values(&known.spots.extensions, name),
+        &customs.sight,
+        multimap::values(&customs.spots.extensions, name),
     )
 }

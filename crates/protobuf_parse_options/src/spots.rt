@@ -1,15 +1,9 @@
 //! Where files declare messages, enums and extensions, by their full names.
 
-ghost use Rattle.std.specs.Prelude.{◌≡◌, ◌++◌, ◌∷◌, [], List, length, map};
-ghost use Rattle.std.specs.Prelude.{OnOk};
-ghost use Rattle.std.specs.Int.{w32};
-ghost use Rattle.std.specs.Int.RustNames.{FitsSigned};
-ghost use Rattle.protobuf_parse_model.specs.Descriptors.{FileDescriptor, Text, enum_value_view};
-ghost use Rattle.protobuf_parse_model.specs.Descriptors.{file_view};
+ghost use Rattle.std.specs.Prelude.{◌≡◌, ◌++◌, ◌∷◌, [], List, length, OnOk};
+ghost use Rattle.protobuf_parse_model.specs.Descriptors.{FileDescriptor, Text, file_view};
 ghost use Rattle.protobuf_parse_options.specs.Holding.{Holds};
 ghost use Rattle.protobuf_parse_options.specs.HoldingParts.{AddsSpots, spots_of_list};
-ghost use Rattle.protobuf_parse_options.specs.Views.{enum_declared};
-ghost use Rattle.protobuf_parse_options.specs.SmallValues.{AreSmall, HaveSmall};
 
 pub mod declared;
 pub mod found;
@@ -17,11 +11,11 @@ pub mod members;
 pub mod parts;
 pub mod picked;
 
-use crate::spots::declared::Spotted;
+use crate::spots::declared::{Spotted, members_of};
 use crate::spots::parts::HasParts;
 pub use picked::PickedFiles;
 use protobuf_parse_base::multimap;
-use protobuf_parse_model::{EnumDescriptorProto, EnumValueDescriptorProto, FileDescriptorProto};
+use protobuf_parse_model::{EnumDescriptorProto, FieldDescriptorProto, FileDescriptorProto};
 use std::alloc::{AllocError, Global};
 use std::collections::BTreeMap;
 
@@ -73,9 +67,8 @@ impl Spots {
             Holds self.old files → Holds self.new (files ++ file_view descriptor.now ∷ [])) }
     {
         let messages = declared::messages_of(alloc, descriptor)?;
-        let enums = declared::enums_of(alloc, descriptor, &messages)?;
-        let extensions = declared::extensions_declared(alloc, descriptor, &messages)?;
-        read_enums(&enums);
+        let enums = members_of::<EnumDescriptorProto>(alloc, descriptor, &messages)?;
+        let extensions = members_of::<FieldDescriptorProto>(alloc, descriptor, &messages)?;
         put_all(&mut self.messages, alloc, file, &messages)?;
         put_all(&mut self.enums, alloc, file, &enums)?;
         put_all(&mut self.extensions, alloc, file, &extensions)
@@ -114,30 +107,4 @@ fn put<T: HasParts>(
         positions: spotted.what.positions(alloc)?,
     };
     multimap::put(spots, spotted.name.clone()?, spot)
-}
-
-// ---- numbers of enums' values
-
-/// Reads the number of each value. It has 32 bits, as its type says; the encoder asks it of all of
-/// them.
-fn read_enums(enums: &[Spotted<&EnumDescriptorProto>])
-    ensures { HaveSmall (map enum_declared enums.now) }
-{
-    'enums: for spotted in enums {
-        read_values(&spotted.what.value);
-    }
-}
-
-fn read_values(values: &[EnumValueDescriptorProto])
-    ensures { AreSmall (map enum_value_view values.now) }
-{
-    'values: for value in values {
-        read_number(value);
-    }
-}
-
-fn read_number(value: &EnumValueDescriptorProto)
-    ensures { FitsSigned w32 value.now.number }
-{
-    let _number = value.number;
 }

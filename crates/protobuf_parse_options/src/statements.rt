@@ -140,7 +140,7 @@ fn push_custom(
         return Ok(());
     };
     match first {
-        ProtobufOptionNamePart::Direct(name) => Err(plain_first(alloc, construct, name)),
+        ProtobufOptionNamePart::Direct(name) => Err(direct_first(alloc, construct, name)),
         ProtobufOptionNamePart::Ext(_) => {
             let message = options_message(construct);
             push_path(parts, alloc, at, parts, value, message, out)
@@ -148,9 +148,9 @@ fn push_custom(
     }
 }
 
-/// The failure for a name that goes on from a plain part: E28 from `uninterpreted_option`, E16 from
-/// any other built-in option, E17 where there is none.
-fn plain_first(alloc: Global, construct: Construct, name: &str) -> OptionFailure
+/// The failure for a name that goes on from a direct part: E28 from `uninterpreted_option`, E16
+/// from any other built-in option, E17 where there is none.
+fn direct_first(alloc: Global, construct: Construct, name: &str) -> OptionFailure
     ensures { Refuses result (builtin_step_faults (table_of construct) name.now) }
 {
     let kind = if name == "uninterpreted_option" {

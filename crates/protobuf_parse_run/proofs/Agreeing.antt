@@ -15,7 +15,7 @@ use Rattle.protobuf_parse_elaboration.specs.FilesByPath.{AreDistinct, AreJust, l
 use Rattle.protobuf_parse_elaboration.specs.FilesByPath.{trees_at}
 use Rattle.protobuf_parse_elaboration.proofs.Orders.{SameMembers, first-among, just-same, link-none}
 use Rattle.protobuf_parse_elaboration.proofs.Orders.{link-told, types-same}
-use Rattle.protobuf_parse_options.specs.OptionBytes.{known_customs}
+use Rattle.protobuf_parse_options.specs.OptionBytes.{customs_by_files}
 use Rattle.protobuf_parse_run.specs.Walks.{Trees, Reaches, HandsOn, Sees, sees_itself, by_import}
 use Rattle.protobuf_parse_run.specs.Walks.{among, import_paths}
 use Rattle.protobuf_parse_run.specs.Repeats.{declaring, repeat_faults, repeat_place, told_at}
@@ -205,9 +205,9 @@ module _ (old new : Files) (p : Text) (was : WereRead old) (is : WereRead new)
       let within : (q : Text) → among q (old.seen p) ≡ true → among q (old.reached p) ≡ true =
       λ q m. (was.listed.reaches p).all q
       (sees-reaches old.trees p q ((was.listed.sees p).only q m)) in
-      ap (λ ds. known_customs ds (plains_at new (new.seen p)))
+      ap (λ ds. customs_by_files ds (plains_at new (new.seen p)))
       (plains-same none (new.reached p) again.only)
-      ∙ ap (λ ds. known_customs (plains_at old (new.reached p)) ds)
+      ∙ ap (λ ds. customs_by_files (plains_at old (new.reached p)) ds)
       (plains-same none (new.seen p)
       (λ q m. sees-reaches old.trees p q (sight.only q m)))
       ∙ sym (customs-same old (old.reached p) (new.reached p) (old.seen p) (new.seen p)

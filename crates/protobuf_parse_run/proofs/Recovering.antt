@@ -25,7 +25,7 @@ use Rattle.protobuf_parse_options.proofs.Entered.{described}
 use Rattle.protobuf_parse_options.proofs.EnumNumbers.{SmallFile, file_small, values_small}
 use Rattle.protobuf_parse_options.proofs.OptionBytes.{option_bytes_spell}
 use Rattle.protobuf_parse_options.proofs.BareNumbers.{numbers_ignore_options}
-use Rattle.protobuf_parse_options.proofs.Recovery.{plain_options_are_no_bytes}
+use Rattle.protobuf_parse_options.proofs.Recovery.{builtin_options_are_no_bytes}
 use Rattle.protobuf_parse_options.proofs.Recovery.{texts_are_not_too_deep}
 use Rattle.protobuf_parse_options.proofs.RecoveryAbove.{options_are_recovered_above}
 use Rattle.protobuf_parse_options.proofs.Sound.{text_sound}
@@ -189,7 +189,7 @@ module _ (files : Files) (inputs : List Input) (clean : IsClean files inputs)
       spelled = subst (λ (es : Entries). Spells es (bytes_in files p s)) (sym same)
           (option_bytes_spell (plains_at files reached) (plains_at files seen) t (small p)
           (options-faultless p t is m) s stands);
-      nothing = plain_options_are_no_bytes (plains_at files reached) (plains_at files seen) s;
+      nothing = builtin_options_are_no_bytes (plains_at files reached) (plains_at files seen) s;
       shallow = texts_are_not_too_deep text.0 t text.1 s stands
           (scope_of (handed_out files reached) (handed_out files seen) s);
       read = read-back;

@@ -7,7 +7,7 @@ use Rattle.protobuf_parse_elaboration.specs.FilesByPath.{among, trees_at}
 use Rattle.protobuf_parse_elaboration.proofs.Orders.{SameMembers}
 use Rattle.protobuf_parse_syntax.proofs.PackageNames.{package_has_name}
 use Rattle.protobuf_parse_options.specs.NamesAlike.{HasPackageName}
-use Rattle.protobuf_parse_options.specs.OptionBytes.{known_customs}
+use Rattle.protobuf_parse_options.specs.OptionBytes.{customs_by_files}
 use Rattle.protobuf_parse_options.proofs.DescriptorOrders.{order_makes_no_difference}
 use Rattle.protobuf_parse_run.specs.Walks.{Trees}
 use Rattle.protobuf_parse_run.specs.Run.{Files, HasTrees, IsTree, plains_at}
@@ -40,8 +40,8 @@ pub customs-same : (files : Files) (reached reached' seen seen' : List Text)
     → SameMembers seen seen'
     → ((q : Text) → among q seen ≡ true → among q reached ≡ true)
     → link_faults (trees_at files.trees reached) ≡ []
-    → known_customs (plains_at files reached) (plains_at files seen)
-    ≡ known_customs (plains_at files reached') (plains_at files seen')
+    → customs_by_files (plains_at files reached) (plains_at files seen)
+    ≡ customs_by_files (plains_at files reached') (plains_at files seen')
 customs-same files reached reached' seen seen' named same sees within none =
     order_makes_no_difference files.trees (plain_environments files) reached reached' seen seen'
     (record { scope = λ p t is. refl; package_name = λ p t is. named p t is })

@@ -33,7 +33,7 @@ use Rattle.protobuf_parse_wire.specs.Encoded.{encoded}
 use Rattle.protobuf_parse_wire.specs.Views.{entries_of_list}
 use Rattle.protobuf_parse_options.specs.CustomOptions.{items_of_option, scope_of}
 use Rattle.protobuf_parse_options.specs.OptionFields.{OptionScope}
-use Rattle.protobuf_parse_options.specs.OptionBytes.{known_customs, option_bytes}
+use Rattle.protobuf_parse_options.specs.OptionBytes.{customs_by_files, option_bytes}
 use Rattle.protobuf_parse_options.specs.WithoutOptions.{bare_file}
 use Rattle.protobuf_parse_options.proofs.BareFiles.{file-alike}
 use Rattle.protobuf_parse_run.specs.Loading.{ElaboratesTo, LoadedEntry, customs_over}
@@ -66,7 +66,7 @@ all-nothing f (x ∷ xs) each =
 
 module _ (seen : List FileSyntax) (files visible : List FileDescriptor) (t : FileSyntax) where
   abbrev known : Customs
-  known = known_customs files visible
+  known = customs_by_files files visible
 
   -- ** where no custom option is set
 

@@ -26,7 +26,7 @@ use Rattle.protobuf_parse_elaboration.specs.FileDescriptor.{environment, file_fa
 use Rattle.protobuf_parse_elaboration.specs.FilesByPath.{AreDistinct}
 use Rattle.protobuf_parse_options.specs.CustomFaults.{elaboration_faults}
 use Rattle.protobuf_parse_options.specs.Holding.{Holds}
-use Rattle.protobuf_parse_options.specs.OptionBytes.{known_customs}
+use Rattle.protobuf_parse_options.specs.OptionBytes.{customs_by_files}
 use Rattle.protobuf_parse_options.specs.WithoutOptions.{bare_file}
 use Rattle.protobuf_parse_run.specs.declared.fault.RunFault.{RunFault}
 use Rattle.protobuf_parse_run.specs.declared.fault.RunFault.TheVariants as fault
@@ -235,7 +235,7 @@ faults_over loaded files descriptors reach sight t =
 
 abbrev pub customs_over : List FileDescriptor → List ℕ → List ℕ → Customs
 customs_over descriptors reach sight =
-    known_customs (picked_descriptors descriptors reach) (picked_descriptors descriptors sight)
+    customs_by_files (picked_descriptors descriptors reach) (picked_descriptors descriptors sight)
 
 -- those of a file by itself
 abbrev pub own_over : List FileSyntax → List ℕ → FileSyntax → List elaborating.Fault

@@ -23,7 +23,7 @@ use Rattle.protobuf_parse_model.specs.Linking.{before_others}
 use Rattle.protobuf_parse_elaboration.specs.FileDescriptor.{environment, file_faults, file_of}
 use Rattle.protobuf_parse_elaboration.specs.FilesByPath.{AreDistinct, AreJust, trees_at}
 use Rattle.protobuf_parse_options.specs.CustomFaults.{elaboration_faults}
-use Rattle.protobuf_parse_options.specs.OptionBytes.{known_customs}
+use Rattle.protobuf_parse_options.specs.OptionBytes.{customs_by_files}
 use Rattle.protobuf_parse_options.specs.Recovery.{plain_at}
 use Rattle.protobuf_parse_run.specs.declared.bundled.TheConstants.{BUNDLED_FILES}
 use Rattle.protobuf_parse_run.specs.declared.fault.RunFault.{RunFault}
@@ -150,7 +150,7 @@ plains_at files ps = plain_at files.trees files.seen ps
 -- what the custom options of a file become
 abbrev pub customs_of : Files → Text → Customs
 customs_of files p =
-    known_customs (plains_at files (files.reached p)) (plains_at files (files.seen p))
+    customs_by_files (plains_at files (files.reached p)) (plains_at files (files.seen p))
 
 -- from where the file of this path and tree is seen: names are looked up over the files that it
 -- sees

@@ -23,7 +23,7 @@ use crate::repeats::link_at_places;
 use crate::tables::{RunSpots, Tables, add_next};
 use protobuf_parse_elaboration::{elaborate, elaborate_all, elaborate_all_owned, elaborate_owned};
 use protobuf_parse_model::{ElabError, ElabFailure, FileDescriptorProto, Seen, WithoutCustoms};
-use protobuf_parse_options::{KnownFiles, PickedFiles, Spots, has_custom_option};
+use protobuf_parse_options::{PickedFiles, Spots, WithCustoms, has_custom_option};
 use protobuf_parse_syntax::FileTree;
 use std::alloc::{AllocError, Global};
 
@@ -213,8 +213,8 @@ fn tell_customs(
         numbers: seen.sight,
         files: &visible,
     };
-    let known = KnownFiles::new(spots, reach, sight);
-    elaborate_all_owned(alloc, faults, path, tree, seen, &known)?;
+    let customs = WithCustoms::new(spots, reach, sight);
+    elaborate_all_owned(alloc, faults, path, tree, seen, &customs)?;
     Ok(())
 }
 
@@ -278,8 +278,8 @@ fn spelled(
         numbers: seen.sight,
         files: &visible,
     };
-    let known = KnownFiles::new(spots, reach, sight);
-    elaborate_owned(alloc, path, tree, seen, &known)
+    let customs = WithCustoms::new(spots, reach, sight);
+    elaborate_owned(alloc, path, tree, seen, &customs)
 }
 
 /// The descriptors of the files with these numbers. The next file's is `own`.

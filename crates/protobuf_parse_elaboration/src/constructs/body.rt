@@ -99,12 +99,12 @@ pub fn add_field<C: CustomOptions>(
     if has_own_oneof(at.context.syntax, statement) {
         add_in_own_oneof(at, faults, body, statement)
     } else {
-        add_plain(at, faults, body, statement)
+        add_normal(at, faults, body, statement)
     }
 }
 
 /// Adds a field that is in no oneof.
-fn add_plain<C: CustomOptions>(
+fn add_normal<C: CustomOptions>(
     at: &Viewpoint<'_, '_, C>,
     faults: &mut Vec<ElabError>,
     body: &mut Body,
@@ -136,7 +136,7 @@ fn add_without_message<C: CustomOptions>(
     body: &mut Body,
     field: &Field,
 ) -> Result<(), AllocError>
-    requires plain { statements.is_map (tree.type_syntax field.now.type_) ≡ false }
+    requires normal { statements.is_map (tree.type_syntax field.now.type_) ≡ false }
     requires own { has_own_oneof (environment_in (C.customs at.now.custom.now) at.now.context)
         (tree.field (tree.field_syntax field.now)) ≡ false }
     ensures value { let env = seen_from C.customs at.now in

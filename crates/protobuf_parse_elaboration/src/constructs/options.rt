@@ -1,6 +1,7 @@
 //! What the statements among options set, and what is wrong in them.
 
 mod builtin;
+mod entries;
 mod said;
 mod sets;
 mod statements;

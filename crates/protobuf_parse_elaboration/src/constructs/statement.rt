@@ -89,7 +89,7 @@ pub fn declared_field<C: CustomOptions>(
         (fields.field_statement_faults env (field_statement_syntax statement.now)) }
 {
     match statement {
-        FieldStatement::Field(field) => declared_plain(at, faults, owner, field),
+        FieldStatement::Field(field) => declared_normal(at, faults, owner, field),
         FieldStatement::Group(group) => declared_group(at, faults, owner, group),
     }
 }
@@ -116,7 +116,7 @@ pub fn declared_extension<C: CustomOptions>(
 
 /// A field that is no group.
 #[inline(always)]
-fn declared_plain<C: CustomOptions>(
+fn declared_normal<C: CustomOptions>(
     at: &Viewpoint<'_, '_, C>,
     faults: &mut Vec<ElabError>,
     owner: &FieldOwner<'_>,

@@ -1,16 +1,17 @@
 //! What a file declares, in lists.
 
-ghost use Rattle.std.specs.Prelude.{◌≡◌, ◌++◌, ◌∷◌, [], map, string_bytes, IfOk, OnOk};
+ghost use Rattle.std.specs.Prelude.{◌≡◌, ◌++◌, ◌∷◌, [], ℕ, List, map, string_bytes, IfOk, OnOk};
+ghost use Rattle.protobuf_parse_model.specs.Descriptors.{EnumDescriptor, FieldDescriptor};
 ghost use Rattle.protobuf_parse_model.specs.Descriptors.{enum_view, field_view, file_view};
 ghost use Rattle.protobuf_parse_model.specs.Descriptors.{message_view};
-ghost use Rattle.protobuf_parse_options.specs.HoldingParts.{enums_spotted, extensions_spotted};
-ghost use Rattle.protobuf_parse_options.specs.HoldingParts.{messages_spotted};
-ghost use Rattle.protobuf_parse_options.specs.Spots.{enum_name, enums_inside, extensions_inside};
-ghost use Rattle.protobuf_parse_options.specs.Spots.{field_name, spotted_each, spotted_enums};
-ghost use Rattle.protobuf_parse_options.specs.Spots.{spotted_extensions, spotted_inside};
-ghost use Rattle.protobuf_parse_options.specs.Spots.{spotted_list};
+ghost use Rattle.protobuf_parse_options.specs.HoldingParts.{members_view, messages_spotted};
+ghost use Rattle.protobuf_parse_options.specs.HoldingParts.{spotted_by};
+ghost use Rattle.protobuf_parse_options.specs.Spots.{Inside, enum_name, enums_inside};
+ghost use Rattle.protobuf_parse_options.specs.Spots.{extensions_inside, field_name, spotted_each};
+ghost use Rattle.protobuf_parse_options.specs.Spots.{spotted_in, spotted_inside, spotted_list};
 ghost use Rattle.protobuf_parse_options.specs.Spots.{spotted_message, spotted_messages};
 
+use crate::spots::members::{Members, of_file, of_message};
 use protobuf_parse_model::{
     DescriptorProto, EnumDescriptorProto, FieldDescriptorProto, FileDescriptorProto,
 };
@@ -106,121 +107,113 @@ fn add_message<'a>(
     add_messages(alloc, &name, &inner, &message.nested_type, list)
 }
 
-// ---- enums
+// ---- enums and extensions
 
-/// The enums of the file, which has these messages.
-pub fn enums_of<'a>(
+/// What may stand in a file and in a message, beside messages: an enum or an extension.
+pub trait Member: Sized {
+    ghost View: { Type 0 };
+
+    ghost view: { Self → View };
+
+    ghost name_of: { View → List ℕ };
+
+    ghost inside: { Inside → List View };
+
+    fn name(&self) -> &str
+        ensures { result.now ≡ name_of (view self.now) };
+
+    /// Those among what stands in a file or in a message.
+    fn among<'a>(members: Members<'a>) -> &'a [Self]
+        ensures { map view result.now ≡ inside (members_view members.entry) };
+}
+
+impl Member for EnumDescriptorProto {
+    ghost View = { EnumDescriptor };
+
+    ghost view = { enum_view };
+
+    ghost name_of = { enum_name };
+
+    ghost inside = { enums_inside };
+
+    fn name(&self) -> &str {
+        &self.name
+    }
+
+    fn among<'a>(members: Members<'a>) -> &'a [Self] {
+        members.enums
+    }
+}
+
+impl Member for FieldDescriptorProto {
+    ghost View = { FieldDescriptor };
+
+    ghost view = { field_view };
+
+    ghost name_of = { field_name };
+
+    ghost inside = { extensions_inside };
+
+    fn name(&self) -> &str {
+        &self.name
+    }
+
+    fn among<'a>(members: Members<'a>) -> &'a [Self] {
+        members.extensions
+    }
+}
+
+/// The enums or the extensions of the file, which has these messages.
+pub fn members_of<'a, T: Member>(
     alloc: Global,
     file: &'a FileDescriptorProto,
     messages: &[Spotted<&'a DescriptorProto>],
-) -> Result<Vec<Spotted<&'a EnumDescriptorProto>>, AllocError>
+) -> Result<Vec<Spotted<&'a T>>, AllocError>
     ensures { IfOk result (λ v. messages_spotted messages.now
         ≡ spotted_messages (file_view file.now)
-        → enums_spotted v.items ≡ spotted_enums (file_view file.now)) }
+        → spotted_by T.view v.items ≡ spotted_in T.name_of T.inside (file_view file.now)) }
 {
     let mut list = Vec::new(alloc);
     'messages: for message in messages {
-        add_enums_inside(alloc, message, &mut list)?;
+        add_inside(alloc, message, &mut list)?;
     }
     let scope = package_scope(alloc, file)?;
-    add_enums(alloc, &scope, &[], &file.enum_type, &mut list)?;
+    add_each(alloc, &scope, &[], T::among(of_file(file)), &mut list)?;
     Ok(list)
 }
 
-/// Adds the enums inside the message.
-fn add_enums_inside<'a>(
+/// Adds those inside the message.
+fn add_inside<'a, T: Member>(
     alloc: Global,
     message: &Spotted<&'a DescriptorProto>,
-    list: &mut Vec<Spotted<&'a EnumDescriptorProto>>,
+    list: &mut Vec<Spotted<&'a T>>,
 ) -> Result<(), AllocError>
-    ensures { OnOk result (enums_spotted list.new.items ≡ enums_spotted list.old.items
-        ++ spotted_inside enum_name enums_inside (messages_spotted (message.now ∷ []))) }
+    ensures { OnOk result (spotted_by T.view list.new.items ≡ spotted_by T.view list.old.items
+        ++ spotted_inside T.name_of T.inside (messages_spotted (message.now ∷ []))) }
 {
-    if message.what.enum_type.is_empty() {
+    let members = T::among(of_message(message.what));
+    if members.is_empty() {
         return Ok(());
     }
     let path = path_to(alloc, &message.path, message.index)?;
-    add_enums(alloc, &message.name, &path, &message.what.enum_type, list)
+    add_each(alloc, &message.name, &path, members, list)
 }
 
-/// Adds enums of a scope.
-fn add_enums<'a>(
+/// Adds those of one scope.
+fn add_each<'a, T: Member>(
     alloc: Global,
     scope: &str,
     path: &[usize],
-    enums: &'a [EnumDescriptorProto],
-    list: &mut Vec<Spotted<&'a EnumDescriptorProto>>,
+    members: &'a [T],
+    list: &mut Vec<Spotted<&'a T>>,
 ) -> Result<(), AllocError>
-    ensures { OnOk result (enums_spotted list.new.items ≡ enums_spotted list.old.items
-        ++ spotted_each enum_name scope.now path.now 0 (map enum_view enums.now)) }
+    ensures { OnOk result (spotted_by T.view list.new.items ≡ spotted_by T.view list.old.items
+        ++ spotted_each T.name_of scope.now path.now 0 (map T.view members.now)) }
 {
-    for (index, what) in enums.iter().enumerate() {
-        let name = name_within(alloc, scope, &what.name)?;
-        let path = copied(alloc, path)?;
+    for (index, what) in members.iter().enumerate() {
         list.push(Spotted {
-            name,
-            path,
-            index,
-            what,
-        })?;
-    }
-    Ok(())
-}
-
-// ---- extensions
-
-/// The extensions of the file, which has these messages.
-pub fn extensions_declared<'a>(
-    alloc: Global,
-    file: &'a FileDescriptorProto,
-    messages: &[Spotted<&'a DescriptorProto>],
-) -> Result<Vec<Spotted<&'a FieldDescriptorProto>>, AllocError>
-    ensures { IfOk result (λ v. messages_spotted messages.now
-        ≡ spotted_messages (file_view file.now)
-        → extensions_spotted v.items ≡ spotted_extensions (file_view file.now)) }
-{
-    let mut list = Vec::new(alloc);
-    'messages: for message in messages {
-        add_extensions_inside(alloc, message, &mut list)?;
-    }
-    let scope = package_scope(alloc, file)?;
-    add_extensions(alloc, &scope, &[], &file.extension, &mut list)?;
-    Ok(list)
-}
-
-/// Adds the extensions inside the message.
-fn add_extensions_inside<'a>(
-    alloc: Global,
-    message: &Spotted<&'a DescriptorProto>,
-    list: &mut Vec<Spotted<&'a FieldDescriptorProto>>,
-) -> Result<(), AllocError>
-    ensures { OnOk result (extensions_spotted list.new.items ≡ extensions_spotted list.old.items
-        ++ spotted_inside field_name extensions_inside (messages_spotted (message.now ∷ []))) }
-{
-    if message.what.extension.is_empty() {
-        return Ok(());
-    }
-    let path = path_to(alloc, &message.path, message.index)?;
-    add_extensions(alloc, &message.name, &path, &message.what.extension, list)
-}
-
-/// Adds extensions of a scope.
-fn add_extensions<'a>(
-    alloc: Global,
-    scope: &str,
-    path: &[usize],
-    extensions: &'a [FieldDescriptorProto],
-    list: &mut Vec<Spotted<&'a FieldDescriptorProto>>,
-) -> Result<(), AllocError>
-    ensures { OnOk result (extensions_spotted list.new.items ≡ extensions_spotted list.old.items
-        ++ spotted_each field_name scope.now path.now 0 (map field_view extensions.now)) }
-{
-    for (index, what) in extensions.iter().enumerate() {
-        let name = name_within(alloc, scope, &what.name)?;
-        let path = copied(alloc, path)?;
-        list.push(Spotted {
-            name,
-            path,
+            name: name_within(alloc, scope, what.name())?,
+            path: copied(alloc, path)?,
             index,
             what,
         })?;

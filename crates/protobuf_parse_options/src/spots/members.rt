@@ -53,7 +53,8 @@ fn inside(members: Members<'_>, index: usize) -> Option<Members<'_>>
     }
 }
 
-fn of_message(message: &DescriptorProto) -> Members<'_>
+/// What stands in the message.
+pub fn of_message(message: &DescriptorProto) -> Members<'_>
     ensures { members_view result ≡ inside_message (message_view message.now) }
 {
     Members {
@@ -63,7 +64,8 @@ fn of_message(message: &DescriptorProto) -> Members<'_>
     }
 }
 
-fn of_file(file: &FileDescriptorProto) -> Members<'_>
+/// What stands in the file.
+pub fn of_file(file: &FileDescriptorProto) -> Members<'_>
     ensures { members_view result ≡ inside_file (file_view file.now) }
 {
     Members {

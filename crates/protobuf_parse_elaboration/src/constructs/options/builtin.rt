@@ -5,9 +5,10 @@ ghost use Rattle.protobuf_parse_model.specs.Duplicates.{stands_in};
 ghost use Rattle.protobuf_parse_model.specs.OptionTables.{option_names_in, table_of};
 ghost use Rattle.protobuf_parse_elaboration.specs.OptionViews.{table_seen};
 
+use crate::constructs::options::entries::has_name;
 use crate::constructs::options::tables::{
-    BuiltinKind, Table, enum_table, enum_value_table, field_table, file_table, message_table,
-    method_table, oneof_table, service_table,
+    Table, enum_table, enum_value_table, field_table, file_table, message_table, method_table,
+    oneof_table, service_table,
 };
 use protobuf_parse_model::Construct;
 
@@ -16,7 +17,7 @@ use protobuf_parse_model::Construct;
 pub fn has_builtin_option(construct: Construct, name: &str) -> bool
     ensures { result ≡ stands_in name.now (option_names_in (table_of construct)) }
 {
-    has_entry(table_of(construct), name)
+    has_name(table_of(construct), name)
 }
 
 /// The built-in options of the construct.
@@ -33,15 +34,4 @@ pub fn table_of(construct: Construct) -> Table
         Construct::Service => service_table(),
         Construct::Method => method_table(),
     }
-}
-
-fn has_entry(table: &[(&str, BuiltinKind)], name: &str) -> bool
-    ensures { result ≡ stands_in name.now (option_names_in (table_seen table.now)) }
-{
-    'entries: for entry in table {
-        if entry.0 == name {
-            return true;
-        }
-    }
-    false
 }

@@ -1,14 +1,14 @@
 //! What the built-in options among statements say.
 
-ghost use Rattle.std.specs.Prelude.{◌≡◌, bytes_eq, map, option_map, option_to_list, string_bytes};
+ghost use Rattle.std.specs.Prelude.{◌≡◌, map, option_map, option_to_list, string_bytes};
 ghost use Rattle.std.specs.Prelude.{IfOk};
-ghost use Rattle.std.specs.List.{find};
 ghost use Rattle.protobuf_parse_syntax.specs.Trees.{constant_syntax, option_syntax};
 ghost use Rattle.protobuf_parse_model.specs.BuiltinOptions as spec;
 ghost use Rattle.protobuf_parse_model.specs.BuiltinOptions.{options_seen};
 ghost use Rattle.protobuf_parse_elaboration.specs.Fields.{first_named, is_named};
 ghost use Rattle.protobuf_parse_elaboration.specs.OptionViews.{constant_seen, words_seen};
 
+use crate::constructs::options::entries::under_name;
 use crate::constructs::options::strings::decoded_text;
 use protobuf_parse_syntax::{ProtobufConstant, ProtobufOption, ProtobufOptionName};
 use std::alloc::{AllocError, Global};
@@ -112,20 +112,7 @@ fn word_said<T: Copy>(value: &ProtobufConstant, words: &[(&str, T)]) -> Option<T
     ensures { result ≡ spec.word_said (words_seen words.now) (constant_syntax value.now) }
 {
     match value {
-        ProtobufConstant::Ident(said) => value_of_word(words, said),
+        ProtobufConstant::Ident(said) => under_name(words, said),
         _ => None,
     }
-}
-
-/// The value of that name.
-fn value_of_word<T: Copy>(words: &[(&str, T)], said: &str) -> Option<T>
-    ensures { result ≡ option_map (λ w. w.1)
-        (find (λ w. bytes_eq w.0 said.now) (words_seen words.now)) }
-{
-    for (word, value) in words {
-        if *word == said {
-            return Some(*value);
-        }
-    }
-    None
 }

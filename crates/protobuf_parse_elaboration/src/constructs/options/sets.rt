@@ -9,35 +9,11 @@ ghost use Rattle.protobuf_parse_model.specs.BuiltinOptions.{options_seen};
 
 use crate::constructs::options::said::{text_option, truth_option, word_option};
 use protobuf_parse_model::{
-    CType, EnumOptions, EnumValueOptions, FieldOptions, FileOptions, IdempotencyLevel, JSType,
-    MessageOptions, MethodOptions, OneofOptions, OptimizeMode, ServiceOptions,
+    C_TYPES, EnumOptions, EnumValueOptions, FieldOptions, FileOptions, IDEMPOTENCY_LEVELS,
+    JS_TYPES, MessageOptions, MethodOptions, OPTIMIZE_MODES, OneofOptions, ServiceOptions,
 };
 use protobuf_parse_syntax::ProtobufOption;
 use std::alloc::{AllocError, Global};
-
-const OPTIMIZE_MODES: &[(&str, OptimizeMode)] = &[
-    ("SPEED", OptimizeMode::Speed),
-    ("CODE_SIZE", OptimizeMode::CodeSize),
-    ("LITE_RUNTIME", OptimizeMode::LiteRuntime),
-];
-
-const C_TYPES: &[(&str, CType)] = &[
-    ("STRING", CType::String),
-    ("CORD", CType::Cord),
-    ("STRING_PIECE", CType::StringPiece),
-];
-
-const JS_TYPES: &[(&str, JSType)] = &[
-    ("JS_NORMAL", JSType::JsNormal),
-    ("JS_STRING", JSType::JsString),
-    ("JS_NUMBER", JSType::JsNumber),
-];
-
-const IDEMPOTENCY_LEVELS: &[(&str, IdempotencyLevel)] = &[
-    ("IDEMPOTENCY_UNKNOWN", IdempotencyLevel::IdempotencyUnknown),
-    ("NO_SIDE_EFFECTS", IdempotencyLevel::NoSideEffects),
-    ("IDEMPOTENT", IdempotencyLevel::Idempotent),
-];
 
 /// The options of a file.
 pub fn file_options(

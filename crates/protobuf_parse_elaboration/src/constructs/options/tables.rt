@@ -11,8 +11,14 @@ pub enum BuiltinKind {
     Text,
     /// `true` or `false`.
     Truth,
-    /// One of these names.
-    Word(&'static [&'static str]),
+    /// The word of an `OptimizeMode`.
+    OptimizeMode,
+    /// The word of a `CType`.
+    CType,
+    /// The word of a `JSType`.
+    JSType,
+    /// The word of an `IdempotencyLevel`.
+    IdempotencyLevel,
 }
 
 /// The built-in options of a construct: each by its name, with what it is set to.
@@ -37,10 +43,7 @@ const FILE: Table = &[
     ("deprecated", BuiltinKind::Truth),
     ("java_string_check_utf8", BuiltinKind::Truth),
     ("cc_enable_arenas", BuiltinKind::Truth),
-    (
-        "optimize_for",
-        BuiltinKind::Word(&["SPEED", "CODE_SIZE", "LITE_RUNTIME"]),
-    ),
+    ("optimize_for", BuiltinKind::OptimizeMode),
 ];
 
 const MESSAGE: Table = &[
@@ -57,14 +60,8 @@ const FIELD: Table = &[
     ("weak", BuiltinKind::Truth),
     ("unverified_lazy", BuiltinKind::Truth),
     ("debug_redact", BuiltinKind::Truth),
-    (
-        "ctype",
-        BuiltinKind::Word(&["STRING", "CORD", "STRING_PIECE"]),
-    ),
-    (
-        "jstype",
-        BuiltinKind::Word(&["JS_NORMAL", "JS_STRING", "JS_NUMBER"]),
-    ),
+    ("ctype", BuiltinKind::CType),
+    ("jstype", BuiltinKind::JSType),
 ];
 
 const ONEOF: Table = &[];
@@ -80,10 +77,7 @@ const SERVICE: Table = &[("deprecated", BuiltinKind::Truth)];
 
 const METHOD: Table = &[
     ("deprecated", BuiltinKind::Truth),
-    (
-        "idempotency_level",
-        BuiltinKind::Word(&["IDEMPOTENCY_UNKNOWN", "NO_SIDE_EFFECTS", "IDEMPOTENT"]),
-    ),
+    ("idempotency_level", BuiltinKind::IdempotencyLevel),
 ];
 
 /// The options of a file.

@@ -1,29 +1,31 @@
 //! What is wrong in the options among statements, each fault at its option.
 
-ghost use Rattle.std.specs.Prelude.{◌≡◌, ◌++◌, ℕ, List, bytes_eq, map, option_map, IfOk};
-ghost use Rattle.std.specs.Borrow.{Bor};
-ghost use Rattle.std.specs.List.{find};
+ghost use Rattle.std.specs.Prelude.{◌≡◌, ◌++◌, option_map, IfOk};
 ghost use Rattle.protobuf_parse_syntax.specs.Trees.{constant_syntax, option_syntax};
 ghost use Rattle.protobuf_parse_model.specs.BuiltinOptions as spec;
 ghost use Rattle.protobuf_parse_model.specs.declared.customs.Construct.TheVariants as of;
-ghost use Rattle.protobuf_parse_model.specs.Duplicates.{stands_in};
 ghost use Rattle.protobuf_parse_model.specs.Environment.{customs_bytes, customs_faults};
 ghost use Rattle.protobuf_parse_model.specs.Faults.{placed};
 ghost use Rattle.protobuf_parse_model.specs.OptionTables.{table_of};
 ghost use Rattle.protobuf_parse_model.specs.BuiltinOptions.{options_seen};
+ghost use Rattle.protobuf_parse_model.specs.Words.{words_of};
 ghost use Rattle.protobuf_parse_elaboration.specs.ConstructOptions.{construct_faults};
 ghost use Rattle.protobuf_parse_elaboration.specs.Fields.{field_option_faults};
 ghost use Rattle.protobuf_parse_elaboration.specs.Fields.{field_options_faults};
-ghost use Rattle.protobuf_parse_elaboration.specs.OptionViews.{entry_seen, kind_seen, table_seen};
+ghost use Rattle.protobuf_parse_elaboration.specs.OptionViews.{kind_seen, table_seen, words_seen};
 ghost use Rattle.protobuf_parse_elaboration.specs.Viewpoints.{seen_from};
 ghost use Rattle.protobuf_parse_elaboration.specs.Telling.{Tells};
 
 use crate::constructs::options::builtin::table_of;
+use crate::constructs::options::entries::{has_name, under_name};
 use crate::constructs::options::strings::decoded_text;
 use crate::constructs::options::tables::{BuiltinKind, field_table};
 use crate::constructs::viewpoint::Viewpoint;
 use protobuf_parse_lexer::Place;
-use protobuf_parse_model::{Construct, CustomOptions, ElabError, ElabErrorKind, tell};
+use protobuf_parse_model::{
+    C_TYPES, Construct, CustomOptions, ElabError, ElabErrorKind, IDEMPOTENCY_LEVELS, JS_TYPES,
+    OPTIMIZE_MODES, tell,
+};
 use protobuf_parse_syntax::{ProtobufConstant, ProtobufOption, ProtobufOptionName};
 use std::alloc::{AllocError, Global};
 
@@ -157,8 +159,8 @@ fn tell_builtin(
         let kind = ElabErrorKind::BuiltinOptionPointsToNonSingularField;
         return tell(alloc, faults, place, kind, name);
     }
-    match entry(table, name) {
-        Some((_, kind)) => tell_value(alloc, faults, place, name, *kind, value),
+    match kind_of(table, name) {
+        Some(kind) => tell_value(alloc, faults, place, name, kind, value),
         None => tell(
             alloc,
             faults,
@@ -169,20 +171,11 @@ fn tell_builtin(
     }
 }
 
-/// The entry of the option of that name.
-fn entry<'a, 'b>(
-    table: &'a [(&'b str, BuiltinKind)],
-    name: &str,
-) -> Option<&'a (&'b str, BuiltinKind)>
-    ensures { option_map (λ e. entry_seen e.now) result
-        ≡ find (λ e. bytes_eq e.0 name.now) (table_seen table.now) }
+/// What the option of that name is set to.
+fn kind_of(table: &[(&str, BuiltinKind)], name: &str) -> Option<BuiltinKind>
+    ensures { option_map kind_seen result ≡ spec.under_name (table_seen table.now) name.now }
 {
-    for entry in table {
-        if entry.0 == name {
-            return Some(entry);
-        }
-    }
-    None
+    under_name(table, name)
 }
 
 /// Tells a value of another kind.
@@ -201,7 +194,12 @@ fn tell_value(
     match kind {
         BuiltinKind::Text => tell_text(alloc, faults, place, name, value),
         BuiltinKind::Truth => tell_truth(alloc, faults, place, name, value),
-        BuiltinKind::Word(words) => tell_word(alloc, faults, place, name, words, value),
+        BuiltinKind::OptimizeMode => tell_word(alloc, faults, place, name, OPTIMIZE_MODES, value),
+        BuiltinKind::CType => tell_word(alloc, faults, place, name, C_TYPES, value),
+        BuiltinKind::JSType => tell_word(alloc, faults, place, name, JS_TYPES, value),
+        BuiltinKind::IdempotencyLevel => {
+            tell_word(alloc, faults, place, name, IDEMPOTENCY_LEVELS, value)
+        }
     }
 }
 
@@ -254,20 +252,20 @@ fn tell_truth(
     }
 }
 
-fn tell_word(
+fn tell_word<T: Copy>(
     alloc: Global,
     faults: &mut Vec<ElabError>,
     place: Place,
     name: &str,
-    words: &[&str],
+    words: &[(&str, T)],
     value: &ProtobufConstant,
 ) -> Result<(), AllocError>
     ensures { Tells result faults.old faults.new
         (placed place (spec.builtin_value_faults name.now
-        (spec.a_word (map (λ (w : Bor (List ℕ)). w.now) words.now)) (constant_syntax value.now))) }
+        (spec.a_word (words_of (words_seen words.now))) (constant_syntax value.now))) }
 {
     match value {
-        ProtobufConstant::Ident(word) if stands_in(word, words) => Ok(()),
+        ProtobufConstant::Ident(word) if has_name(words, word) => Ok(()),
         _ => tell(
             alloc,
             faults,
@@ -276,16 +274,4 @@ fn tell_word(
             name,
         ),
     }
-}
-
-/// Whether the name is one of these.
-fn stands_in(name: &str, words: &[&str]) -> bool
-    ensures { result ≡ stands_in name.now (map (λ (w : Bor (List ℕ)). w.now) words.now) }
-{
-    for word in words {
-        if *word == name {
-            return true;
-        }
-    }
-    false
 }

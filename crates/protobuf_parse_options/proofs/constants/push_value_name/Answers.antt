@@ -22,7 +22,7 @@ push_item-requires c =
     let known : number_of_value files (type_name_of f) name ≡ Some z =
     sym (ap (λ (t : Text). number_of_value files t name) c.type_name_of.ensures)
     ∙ sym c.number_of_value-number.ensures ∙ c.in-Some.is in
-    let small = c.args.at.now.known.now.small (type_name_of f) name z known in
+    let small = c.args.at.now.customs.now.small (type_name_of f) name z known in
     let none : value_name_faults f.name (type_takes f.type_) name (Some z) ≡ [] =
     subst (λ (o : Option ℤ). value_name_faults f.name (type_takes f.type_) name o ≡ [])
     c.in-Some.is c.in_ok-check_value_name.ensures.0 in

@@ -1,5 +1,5 @@
 use Rattle.protobuf_parse_options.proofs.Recovery.{options_are_recovered}
-use Rattle.protobuf_parse_options.proofs.Recovery.{plain_options_are_no_bytes}
+use Rattle.protobuf_parse_options.proofs.Recovery.{builtin_options_are_no_bytes}
 use Rattle.protobuf_parse_options.proofs.RecoveryAbove.{options_are_recovered_above}
 use Rattle.protobuf_parse_options.proofs.laws.options_are_recovered.Goals as goal
 
@@ -9,5 +9,5 @@ returns-clause-custom c = options_are_recovered
 pub returns-clause-above : goal.returns-clause-above
 returns-clause-above c = options_are_recovered_above
 
-pub returns-clause-plain : goal.returns-clause-plain
-returns-clause-plain c = plain_options_are_no_bytes
+pub returns-clause-builtin : goal.returns-clause-builtin
+returns-clause-builtin c = builtin_options_are_no_bytes

@@ -9,10 +9,10 @@ use Rattle.protobuf_parse_options.proofs.lookup.declared.Goals as goal
 
 pub returns : goal.returns
 returns c =
-    let sight = c.args.known.now.sight in
+    let sight = c.args.customs.now.sight in
     let name = c.args.name.now in
     named_twice name c.first_extension.result
     ∙ ap (option_map (with_name name)) (c.first_extension.ensures
     ∙ ap (λ ps. first (at_spots extensions_inside sight (map spot_view ps))) c.values.ensures
-    ∙ ap first (c.args.known.now.all_extensions name))
+    ∙ ap first (c.args.customs.now.all_extensions name))
     ∙ first_named name (flat_map declared_extensions (files_seen sight))

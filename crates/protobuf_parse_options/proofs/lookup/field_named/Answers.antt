@@ -5,8 +5,8 @@ use Rattle.protobuf_parse_options.proofs.lookup.field_named.Goals as goal
 
 pub returns : goal.returns
 returns c =
-    let known = c.args.known.now in
+    let customs = c.args.customs.now in
     let name = c.args.name.now in
     c.field_of.ensures
-    ∙ ap (λ ps. found_by (field_there known.reach name) (map spot_view ps)) c.values.ensures
-    ∙ known.all_fields c.args.message.now name
+    ∙ ap (λ ps. found_by (field_there customs.reach name) (map spot_view ps)) c.values.ensures
+    ∙ customs.all_fields c.args.message.now name

@@ -10,10 +10,10 @@ use Rattle.protobuf_parse_options.proofs.lookup.is_message.Goals as goal
 
 pub returns : goal.returns
 returns c =
-    let reach = c.args.known.now.reach in
+    let reach = c.args.customs.now.reach in
     let name = c.args.name.now in
     let all = ap (λ ps. map parts_seen (at_spots messages_inside reach (map spot_view ps)))
-    c.values.ensures ∙ c.args.known.now.all_messages name in
+    c.values.ensures ∙ c.args.customs.now.all_messages name in
     c.is_some.ensures
     ∙ sym (is_some_mapped message_seen c.first_message.result)
     ∙ ap is_some c.first_message.ensures

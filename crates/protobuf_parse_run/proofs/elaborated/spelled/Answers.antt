@@ -7,7 +7,7 @@ use Rattle.protobuf_parse_model.specs.Environment.{Customs}
 use Rattle.protobuf_parse_model.specs.Faults.{Elaborates}
 use Rattle.protobuf_parse_model.specs.Tables.{picked}
 use Rattle.protobuf_parse_elaboration.specs.FileDescriptor.{environment, file_faults, file_of}
-use Rattle.protobuf_parse_options.specs.OptionBytes.{known_customs}
+use Rattle.protobuf_parse_options.specs.OptionBytes.{customs_by_files}
 use Rattle.protobuf_parse_run.specs.Loading.{picked_descriptors, descriptors_with}
 use Rattle.protobuf_parse_run.proofs.Catching.{listed, picked-seen}
 use Rattle.protobuf_parse_run.proofs.elaborated.spelled.Goals as goal
@@ -24,10 +24,10 @@ returns c files told =
     ∙ ap (flat_map option_to_list) c.in_ok-reached.ensures ∙ picked-seen descriptors reach in
     let visible = ap listed c.deref-2.ensures.value
     ∙ ap (flat_map option_to_list) c.in_ok-visible.ensures ∙ picked-seen descriptors sight in
-    let known = c.new-known.ensures
-    ∙ ap (λ (ds : List FileDescriptor). known_customs ds (listed c.deref-2.result.now)) reached
-    ∙ ap (λ (ds : List FileDescriptor). known_customs (picked_descriptors descriptors reach) ds)
+    let customs = c.new-customs.ensures
+    ∙ ap (λ (ds : List FileDescriptor). customs_by_files ds (listed c.deref-2.result.now)) reached
+    ∙ ap (λ (ds : List FileDescriptor). customs_by_files (picked_descriptors descriptors reach) ds)
     visible in
     subst (λ (k : Customs). Elaborates described.file_view c.elaborate_owned.result
     (file_faults (environment seen k t) t) (file_of (environment seen k t) c.args.path.now t))
-    known (c.elaborate_owned.ensures files told)
+    customs (c.elaborate_owned.ensures files told)

@@ -7,7 +7,7 @@ use Rattle.protobuf_parse_model.specs.Environment.{Customs}
 use Rattle.protobuf_parse_model.specs.Faults.{found}
 use Rattle.protobuf_parse_model.specs.Tables.{picked}
 use Rattle.protobuf_parse_elaboration.specs.FileDescriptor.{environment, file_faults}
-use Rattle.protobuf_parse_options.specs.OptionBytes.{known_customs}
+use Rattle.protobuf_parse_options.specs.OptionBytes.{customs_by_files}
 use Rattle.protobuf_parse_run.specs.Loading.{picked_descriptors, descriptors_with}
 use Rattle.protobuf_parse_run.proofs.Catching.{listed, picked-seen}
 use Rattle.protobuf_parse_run.proofs.elaborated.tell_customs.Goals as goal
@@ -24,10 +24,10 @@ returns c files told =
     ∙ ap (flat_map option_to_list) c.in_ok-reached.ensures ∙ picked-seen descriptors reach in
     let visible = ap listed c.deref-2.ensures.value
     ∙ ap (flat_map option_to_list) c.in_ok-visible.ensures ∙ picked-seen descriptors sight in
-    let known = c.new-known.ensures
-    ∙ ap (λ (ds : List FileDescriptor). known_customs ds (listed c.deref-2.result.now)) reached
-    ∙ ap (λ (ds : List FileDescriptor). known_customs (picked_descriptors descriptors reach) ds)
+    let customs = c.new-customs.ensures
+    ∙ ap (λ (ds : List FileDescriptor). customs_by_files ds (listed c.deref-2.result.now)) reached
+    ∙ ap (λ (ds : List FileDescriptor). customs_by_files (picked_descriptors descriptors reach) ds)
     visible in
     subst (λ (k : Customs). found c.elaborate_all_owned.new.faults
     ≡ found c.args.faults.now ++ file_faults (environment seen k t) t)
-    known (c.in_ok-elaborate_all_owned.ensures.faults files told)
+    customs (c.in_ok-elaborate_all_owned.ensures.faults files told)

@@ -1,4 +1,4 @@
-use Rattle.std.proofs.Common.{◌∙◌, [], ◌∷◌, List, ap, subst, map}
+use Rattle.std.proofs.Common.{◌∙◌, [], ◌∷◌, List, ap, subst}
 use Rattle.std.specs.Borrow.{Bor}
 use Rattle.std.proofs.lemmas.Result.{on_ok_weaker}
 use Rattle.protobuf_parse_model.specs.declared.descriptor.DescriptorProto.{DescriptorProto}
@@ -9,12 +9,10 @@ use Rattle.protobuf_parse_model.specs.Descriptors.{message_view}
 use Rattle.protobuf_parse_options.specs.declared.spots.declared.Spotted.{Spotted}
 use Rattle.protobuf_parse_options.specs.HoldingParts.{AddsSpots, messages_spotted}
 use Rattle.protobuf_parse_options.specs.HoldingParts.{spots_of_list}
-use Rattle.protobuf_parse_options.specs.Views.{enum_declared}
 use Rattle.protobuf_parse_options.specs.Spots.{spotted_enums, spotted_extensions, spotted_messages}
 use Rattle.protobuf_parse_options.specs.Positions.{extension_parts, field_names, value_names}
-use Rattle.protobuf_parse_options.specs.SmallValues.{HaveSmall}
 use Rattle.protobuf_parse_options.proofs.Holding.{more_held}
-use Rattle.protobuf_parse_options.proofs.SmallValues.{IsSmallFile, small_file}
+use Rattle.protobuf_parse_options.proofs.SmallValues.{IsSmallFile, enums_small, small_file}
 use Rattle.protobuf_parse_options.proofs.SoundSets.{both}
 use Rattle.protobuf_parse_options.proofs.spots.Spots.add.Goals as goal
 
@@ -41,15 +39,13 @@ returns c =
     ∙ c.in_ok-messages.ensures) in
     let first = subst (λ (ks : List (Spotted (Bor DescriptorProto))). AddsSpots old.messages
     c.put_all.new.spots (λ (name : Text). spots_of_list parts_of_message n name ks))
-    c.deref-4.ensures.value
+    c.deref-3.ensures.value
     c.in_ok-put_all.ensures in
     let second = subst (λ (ks : List (Spotted (Bor EnumDescriptorProto))). AddsSpots old.enums
     c.put_all-2.new.spots (λ (name : Text). spots_of_list parts_of_enum n name ks))
-    c.deref-5.ensures.value
+    c.deref-4.ensures.value
     c.in_ok-put_all-2.ensures in
-    let small = subst
-    (λ (ks : List (Spotted (Bor EnumDescriptorProto))). HaveSmall (map enum_declared ks))
-    c.deref-3.ensures.value c.read_enums.ensures in
+    let small = enums_small es in
     on_ok_weaker c.put_all-3.result
     (λ added files len holds. record {
       messages = more_held message_view field_names spotted_messages old.messages
@@ -61,7 +57,7 @@ returns c =
           (subst (λ (ks : List (Spotted (Bor FieldDescriptorProto))).
           AddsSpots old.extensions c.put_all-3.new.spots
           (λ (name : Text). spots_of_list parts_of_extension n name ks))
-          c.deref-6.ensures.value added) holds.extensions;
+          c.deref-5.ensures.value added) holds.extensions;
       small = both IsSmallFile files (f ∷ []) holds.small (small_file f es enums small, tt);
     })
     c.put_all-3.ensures

@@ -5,4 +5,4 @@ use Rattle.protobuf_parse_elaboration.proofs.constructs.options.said.word_said.G
 pub returns-in-Ident : goal.returns-in-Ident
 returns-in-Ident g c =
     word_found (words_seen c.args.words.now) c.args.value.now c.in-Ident.said c.deref.result.now
-    c.value_of_word.result c.in-Ident.is c.deref.ensures c.value_of_word.ensures
+    c.under_name.result c.in-Ident.is c.deref.ensures c.under_name.ensures

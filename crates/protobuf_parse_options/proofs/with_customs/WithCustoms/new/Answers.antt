@@ -22,7 +22,7 @@ use Rattle.protobuf_parse_options.proofs.Spotting.{messages_stand}
 use Rattle.protobuf_parse_options.proofs.Spotting.{placed_stand}
 use Rattle.protobuf_parse_options.proofs.Positioning.{all_told, fields_found, numbers_found}
 use Rattle.protobuf_parse_options.proofs.SmallValues.{picked_small}
-use Rattle.protobuf_parse_options.proofs.known_files.KnownFiles.new.Goals as goal
+use Rattle.protobuf_parse_options.proofs.with_customs.WithCustoms.new.Goals as goal
 
 pub invariant_of-result : goal.invariant_of-result
 invariant_of-result c =

@@ -9,7 +9,7 @@ ghost use Rattle.protobuf_parse_options.specs.HoldingParts.{at_spots, field_ther
 ghost use Rattle.protobuf_parse_options.specs.Holding.{spots_under};
 ghost use Rattle.protobuf_parse_options.specs.HoldingParts.{found_by, number_there};
 ghost use Rattle.protobuf_parse_model.specs.Descriptors.{parts_seen};
-ghost use Rattle.protobuf_parse_options.specs.OptionBytes.{known_customs};
+ghost use Rattle.protobuf_parse_options.specs.OptionBytes.{customs_by_files};
 ghost use Rattle.protobuf_parse_options.specs.OptionFields.{field_named, number_of_value};
 ghost use Rattle.protobuf_parse_options.specs.OptionLaw.{HasSmallValues};
 ghost use Rattle.protobuf_parse_options.specs.Spots.{extensions_inside};
@@ -28,7 +28,7 @@ use std::alloc::{AllocError, Global};
 /// The names of extensions mean extensions of the files that are seen; the names of types in
 /// descriptors mean messages and enums of all files that are reached.
 #[derive(Clone, Copy)]
-pub struct KnownFiles<'a> {
+pub struct WithCustoms<'a> {
     pub(crate) spots: &'a Spots,
     pub(crate) reach: PickedFiles<'a>,
     pub(crate) sight: PickedFiles<'a>,
@@ -47,15 +47,15 @@ pub struct KnownFiles<'a> {
     ghost small: { HasSmallValues (files_seen reach) } by { Prim.hlevel props },
 }
 
-impl<'a> KnownFiles<'a> {
+impl<'a> WithCustoms<'a> {
     /// Knows the extensions of the files that a file sees, itself among them, and the messages and
     /// enums of all files that it reaches.
-    pub fn new(spots: &'a Spots, reach: PickedFiles<'a>, sight: PickedFiles<'a>) -> KnownFiles<'a>
+    pub fn new(spots: &'a Spots, reach: PickedFiles<'a>, sight: PickedFiles<'a>) -> WithCustoms<'a>
         requires knows { Knows spots.now reach sight }
-        ensures { ⟦<KnownFiles<'a> as CustomOptions>⟧.customs result
-            ≡ known_customs (files_seen reach.entry) (files_seen sight.entry) }
+        ensures { ⟦<WithCustoms<'a> as CustomOptions>⟧.customs result
+            ≡ customs_by_files (files_seen reach.entry) (files_seen sight.entry) }
     {
-        KnownFiles {
+        WithCustoms {
             spots,
             reach,
             sight,
@@ -63,8 +63,8 @@ impl<'a> KnownFiles<'a> {
     }
 }
 
-impl CustomOptions for KnownFiles<'_> {
-    ghost customs = { λ k. known_customs (files_seen k.reach) (files_seen k.sight) };
+impl CustomOptions for WithCustoms<'_> {
+    ghost customs = { λ k. customs_by_files (files_seen k.reach) (files_seen k.sight) };
 
     fn bytes(
         &self,
