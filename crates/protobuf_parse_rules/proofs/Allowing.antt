@@ -17,8 +17,8 @@ use Rattle.protobuf_parse_rules.specs.Maps.{is_entry, is_no_key}
 use Rattle.protobuf_parse_rules.specs.MessageSets.{is_message_set}
 use Rattle.protobuf_parse_rules.specs.Ordinary.{allows, has_common_options, is_common, is_free}
 use Rattle.protobuf_parse_rules.specs.Ordinary.{is_group_or_enum, is_noted, is_odd_in_map}
-use Rattle.protobuf_parse_rules.specs.Places.{Content, Place, extension_ranges, reserved_names}
-use Rattle.protobuf_parse_rules.specs.Places.{reserved_ranges}
+use Rattle.protobuf_parse_rules.specs.Bodies.{Content, BodyParts, extension_ranges, reserved_names}
+use Rattle.protobuf_parse_rules.specs.Bodies.{reserved_ranges}
 use Rattle.protobuf_parse_rules.specs.Proto3.{is_group, is_required}
 use Rattle.protobuf_parse_rules.specs.Ranges.{in_ranges, is_among}
 use Rattle.protobuf_parse_rules.specs.Rules.{Site, breaches_at, broken_by}
@@ -78,7 +78,7 @@ pub never_proto2 : (o : Option NamedEnum) → option_and_then (enum_of_proto2 fa
 never_proto2 None = refl
 never_proto2 (Some e) = refl
 
-module _ (all : List Place) (f : FieldDescriptor) where
+module _ (all : List BodyParts) (f : FieldDescriptor) where
   of_proto2 : (proto3 : Bool) → (proto3 && is_group_or_enum f.type_) ≡ false
       → of_enum all (enum_of_proto2 proto3) f ≡ None
   of_proto2 false h = never_proto2 (enum_of_field all f)
@@ -148,7 +148,7 @@ module _ (all : List Place) (f : FieldDescriptor) where
 
 -- ---- by the message
 
-module _ (all : List Place) (content : Content) (f : FieldDescriptor) where
+module _ (all : List BodyParts) (content : Content) (f : FieldDescriptor) where
   value_free : (is_entry content && is_odd_in_map f) ≡ false
       → of_enum all (map_value content f) f ≡ None
   value_free h =

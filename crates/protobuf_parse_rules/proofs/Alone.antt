@@ -1,4 +1,4 @@
--- Places where nothing that is wrong depends on others.
+-- Bodies where nothing that is wrong depends on others.
 use Rattle.std.proofs.Common.{◌≡◌, Bool, true, false, ◌||◌, List, [], ◌∷◌, ◌++◌, refl, sym, ap, ◌∙◌}
 use Rattle.std.proofs.Common.{Option, None, inl, inr}
 use Rattle.std.specs.Prelude.{◌&&◌, is_some}
@@ -22,17 +22,18 @@ use Rattle.protobuf_parse_rules.specs.Maps.{is_entry, key_type}
 use Rattle.protobuf_parse_rules.specs.MessageSets.{field_of_set}
 use Rattle.protobuf_parse_rules.specs.Numbers.{claims, number_rule}
 use Rattle.protobuf_parse_rules.specs.Oneofs.{empty_oneofs}
-use Rattle.protobuf_parse_rules.specs.Places.{Content, Place, enums_of, extensions_of, fields_of}
-use Rattle.protobuf_parse_rules.specs.Places.{imports_of, of_file, of_message, reserved_names}
+use Rattle.protobuf_parse_rules.specs.Bodies.{Content, BodyParts, enums_of, extensions_of}
+use Rattle.protobuf_parse_rules.specs.Bodies.{fields_of}
+use Rattle.protobuf_parse_rules.specs.Bodies.{imports_of, of_file, of_message, reserved_names}
 use Rattle.protobuf_parse_rules.specs.Positions.{by_position}
 use Rattle.protobuf_parse_rules.specs.Proto3.{default_field, group_field, required_field}
 use Rattle.protobuf_parse_rules.specs.Ranges.{kept_number, reserved_name, reserved_number}
 use Rattle.protobuf_parse_rules.specs.Repeats.{repeats}
 use Rattle.protobuf_parse_rules.specs.Rules.{Breach, Broken, Site, breaches_at}
 use Rattle.protobuf_parse_rules.specs.Violations.{breaches_after, breaches_inside}
-use Rattle.protobuf_parse_rules.specs.Violations.{breaches_of_place}
+use Rattle.protobuf_parse_rules.specs.Violations.{breaches_of_body}
 use Rattle.protobuf_parse_rules.specs.Violations.{extension_breaches, field_breaches, own_rules}
-use Rattle.protobuf_parse_rules.specs.Violations.{range_breaches, site_in, site_of_place}
+use Rattle.protobuf_parse_rules.specs.Violations.{range_breaches, site_in, site_of_body}
 use Rattle.protobuf_parse_rules.specs.declared.rule.Rule.TheVariants as rule
 use Rattle.protobuf_parse_rules.proofs.Passing.{no_enum, no_map_value}
 use Rattle.protobuf_parse_rules.proofs.Allowing.{never_proto2, no_default, not_some}
@@ -56,7 +57,7 @@ any_nil (x ∷ xs) h = absurd cc
 -- ---- fields
 
 -- what is told of a field, by what the rules say that look at enums
-abbrev told : Place → FieldDescriptor → (x y z : Option Broken) → List Breach
+abbrev told : BodyParts → FieldDescriptor → (x y z : Option Broken) → List Breach
 told p f x y z =
     breaches_at (site_in p f.name) (limit false f.number
     ∷ reserved_number f.number p.content
@@ -77,7 +78,7 @@ told p f x y z =
     ∷ z
     ∷ [])
 
-module _ (all : List Place) (p : Place) (f : FieldDescriptor)
+module _ (all : List BodyParts) (p : BodyParts) (f : FieldDescriptor)
     (h : field_asks p.proto3 p.content f ≡ false) where
   no_value : of_enum all (map_value p.content f) f ≡ None
   no_value =
@@ -122,7 +123,7 @@ module _ (all : List Place) (p : Place) (f : FieldDescriptor)
       ∙ ap (λ y. told p f None y (of_enum all (default_value f) f)) no_proto2
       ∙ ap (λ z. told p f None None z) no_value_named
 
-fields_alone : (all : List Place) (p : Place) (fs : List FieldDescriptor)
+fields_alone : (all : List BodyParts) (p : BodyParts) (fs : List FieldDescriptor)
     → list_any (field_asks p.proto3 p.content) fs ≡ false
     → flat_map (field_breaches [] p) fs ≡ flat_map (field_breaches all p) fs
 fields_alone all p [] h = refl
@@ -137,31 +138,31 @@ fields_alone all p (f ∷ fs) h =
 
 -- ---- imports
 
-none_unused : (all : List Place) (site : Site) (content : Content)
+none_unused : (all : List BodyParts) (site : Site) (content : Content)
     → are_any (imports_of content) ≡ false → unused_in all site content ≡ []
 none_unused all site (of_message m) h = refl
 none_unused all site (of_file f) h =
     ap (λ (paths : List Text). by_position (import_breaches all site f.public_dependency) 0 paths)
     (any_nil f.dependency h)
 
--- ---- places
+-- ---- bodies
 
--- what is told of a place, by what is told of its fields, its extensions and its imports
-abbrev told_inside : Place → (fields extensions imports : List Breach) → List Breach
+-- what is told of a body, by what is told of its fields, its extensions and its imports
+abbrev told_inside : BodyParts → (fields extensions imports : List Breach) → List Breach
 told_inside p fields extensions imports =
     (json_names_in_use p ++ fields_alike p)
     ++ (fields
     ++ (extensions
-    ++ ((breaches_at (site_of_place p) (own_rules p.proto3 p.content)
+    ++ ((breaches_at (site_of_body p) (own_rules p.proto3 p.content)
     ++ (empty_oneofs p
-    ++ ((repeats rule.ImportedTwice (site_of_place p) (imports_of p.content) ++ imports)
-    ++ (repeats rule.NameReservedTwice (site_of_place p) (reserved_names p.content)
+    ++ ((repeats rule.ImportedTwice (site_of_body p) (imports_of p.content) ++ imports)
+    ++ (repeats rule.NameReservedTwice (site_of_body p) (reserved_names p.content)
     ++ range_breaches p))))
     ++ flat_map (enum_breaches p) (enums_of p.content))))
 
-place_alone : (all : List Place) (p : Place) → asks p ≡ false
+body_alone : (all : List BodyParts) (p : BodyParts) → asks p ≡ false
     → breaches_inside [] p ≡ breaches_inside all p
-place_alone all p h =
+body_alone all p h =
     let fields = fields_of p.content in
     let extensions = extensions_of p.content in
     let others = left (are_any (imports_of p.content) || are_any extensions)
@@ -178,16 +179,16 @@ place_alone all p h =
     ∙ sym (ap (flat_map (extension_breaches all p)) none))
     ∙ ap (λ bs. told_inside p (flat_map (field_breaches all p) fields)
     (flat_map (extension_breaches all p) extensions) bs)
-    (none_unused [] (site_of_place p) p.content imports
-    ∙ sym (none_unused all (site_of_place p) p.content imports))
+    (none_unused [] (site_of_body p) p.content imports
+    ∙ sym (none_unused all (site_of_body p) p.content imports))
 
--- Where no place asks, what is told is what would be if there were no others.
-pub told_alone : (all : List Place) (before : List Claim) (ps : List Place)
+-- Where no body asks, what is told is what would be if there were no others.
+pub told_alone : (all : List BodyParts) (before : List Claim) (ps : List BodyParts)
     → list_any asks ps ≡ false → breaches_after [] before ps ≡ breaches_after all before ps
 told_alone all before [] h = refl
 told_alone all before (p ∷ ps) h =
     ap (λ bs. (conflicts number_rule before (claims p) ++ bs)
     ++ breaches_after [] (before ++ claims p) ps)
-    (place_alone all p (left (asks p) (list_any asks ps) h))
-    ∙ ap (λ bs. breaches_of_place all before p ++ bs)
+    (body_alone all p (left (asks p) (list_any asks ps) h))
+    ∙ ap (λ bs. breaches_of_body all before p ++ bs)
     (told_alone all (before ++ claims p) ps (right (asks p) (list_any asks ps) h))

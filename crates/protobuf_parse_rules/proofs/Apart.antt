@@ -16,8 +16,8 @@ use Rattle.protobuf_parse_model.specs.Faults.{Among, here, there}
 use Rattle.protobuf_parse_wire.specs.Declarations.{Declaration, messages_declared_in, extends}
 use Rattle.protobuf_parse_wire.specs.Declarations.{extensions_extending, extensions_declared_in}
 use Rattle.protobuf_parse_wire.specs.Declarations.{extensions_within, package_scope}
-use Rattle.protobuf_parse_rules.specs.Places.{Place, extensions_of, fields_of, file_path}
-use Rattle.protobuf_parse_rules.specs.Places.{is_proto3, message_place, outer_place, places}
+use Rattle.protobuf_parse_rules.specs.Bodies.{BodyParts, extensions_of, fields_of, file_path}
+use Rattle.protobuf_parse_rules.specs.Bodies.{is_proto3, message_body, outer_body, bodies_in}
 use Rattle.protobuf_parse_rules.specs.Law.{NumbersAreApart}
 use Rattle.protobuf_parse_rules.specs.Claims.{Thing}
 use Rattle.protobuf_parse_rules.specs.Numbers.{claim_of, claims, extension_claim}
@@ -95,17 +95,17 @@ claims_of_extensions file scope m n (e ∷ es) =
     (claims_of_extensions file scope m n es)
     ∙ sym right
 
-abbrev fields_at : Place → List FieldDescriptor
+abbrev fields_at : BodyParts → List FieldDescriptor
 fields_at p = fields_of p.content
 
-abbrev extensions_at : Place → List FieldDescriptor
+abbrev extensions_at : BodyParts → List FieldDescriptor
 extensions_at p = extensions_of p.content
 
-abbrev own_claims_at : Text → ℤ → Place → ℕ
+abbrev own_claims_at : Text → ℤ → BodyParts → ℕ
 own_claims_at m n p = claimed (number_of m n) (field_claims p.file p.scope (fields_at p))
 
--- the claims of a place, and those of places: of the extensions all, of the fields at least these
-claims_at : (m : Text) (n : ℤ) (p : Place)
+-- the claims of a body, and those of bodies: of the extensions all, of the fields at least these
+claims_at : (m : Text) (n : ℤ) (p : BodyParts)
     → claimed (number_of m n) (claims p)
     ≡ own_claims_at m n p + numbered n (filter (extends m) (extensions_at p))
 claims_at m n p =
@@ -114,7 +114,7 @@ claims_at m n p =
     ∙ ap (λ k. own_claims_at m n p + k)
     (claims_of_extensions p.file p.scope m n (extensions_at p))
 
-numbered-extensions : (m : Text) (n : ℤ) (p : Place) (ps : List Place)
+numbered-extensions : (m : Text) (n : ℤ) (p : BodyParts) (ps : List BodyParts)
     → numbered n (filter (extends m) (flat_map extensions_at (p ∷ ps)))
     ≡ numbered n (filter (extends m) (extensions_at p))
     + numbered n (filter (extends m) (flat_map extensions_at ps))
@@ -123,7 +123,7 @@ numbered-extensions m n p ps =
     ∙ numbered-append n (filter (extends m) (extensions_at p))
     (filter (extends m) (flat_map extensions_at ps))
 
-extensions_within_claims : (m : Text) (n : ℤ) (ps : List Place)
+extensions_within_claims : (m : Text) (n : ℤ) (ps : List BodyParts)
     → numbered n (filter (extends m) (flat_map extensions_at ps))
     ≤ claimed (number_of m n) (flat_map claims ps)
 extensions_within_claims m n [] = omega arith
@@ -137,7 +137,7 @@ extensions_within_claims m n (p ∷ ps) =
     )
 
 -- the fields of a message of that name, and all extensions of it
-within_claims : (m : Text) (n : ℤ) (p : Place) (ps : List Place) → p.scope ≡ m → Among ps p
+within_claims : (m : Text) (n : ℤ) (p : BodyParts) (ps : List BodyParts) → p.scope ≡ m → Among ps p
     → numbered n (fields_at p) + numbered n (filter (extends m) (flat_map extensions_at ps))
     ≤ claimed (number_of m n) (flat_map claims ps)
 within_claims m n p [] named h = elim h [ ]
@@ -162,7 +162,7 @@ within_claims m n p (q ∷ ps) named (there among) =
       within_claims m n p ps named among,
     )
 
--- ---- the places of files have their messages and extensions
+-- ---- the bodies of files have their messages and extensions
 
 abbrev field_of : Declared FieldDescriptor → FieldDescriptor
 field_of e = e.what
@@ -174,7 +174,7 @@ fields_within scope (f ∷ fs) = ap (λ (gs : List FieldDescriptor). f ∷ gs) (
 
 fields_inside : (path : Text) (proto3 : Bool) (ds : List Declaration)
     → map field_of (flat_map (λ (d : Declaration). extensions_within d.name d.parts.extension) ds)
-    ≡ flat_map extensions_at (map (message_place path proto3) ds)
+    ≡ flat_map extensions_at (map (message_body path proto3) ds)
 fields_inside path proto3 [] = refl
 fields_inside path proto3 (d ∷ ds) =
     map-append field_of (extensions_within d.name d.parts.extension)
@@ -186,13 +186,13 @@ fields_inside path proto3 (d ∷ ds) =
     ∙ ap (λ (fs : List FieldDescriptor). d.parts.extension ++ fs) (fields_inside path proto3 ds)
 
 extensions_are : (file : FileDescriptor)
-    → flat_map extensions_at (places file) ≡ extensions_declared_in file
+    → flat_map extensions_at (bodies_in file) ≡ extensions_declared_in file
 extensions_are file =
     let ds = messages_declared_in file in
     let path = file_path file in
     let proto3 = is_proto3 file in
-    flat_map-append extensions_at (map (message_place path proto3) ds) (outer_place file ∷ [])
-    ∙ ap (λ z. flat_map extensions_at (map (message_place path proto3) ds) ++ z)
+    flat_map-append extensions_at (map (message_body path proto3) ds) (outer_body file ∷ [])
+    ∙ ap (λ z. flat_map extensions_at (map (message_body path proto3) ds) ++ z)
     (append-nil file.extension)
     ∙ sym (map-append field_of
     (flat_map (λ (d : Declaration). extensions_within d.name d.parts.extension) ds)
@@ -200,15 +200,15 @@ extensions_are file =
     ∙ ap (λ (fs : List FieldDescriptor). fs
     ++ map field_of (extensions_within (package_scope file.«package») file.extension))
     (fields_inside path proto3 ds)
-    ∙ ap (λ (fs : List FieldDescriptor). flat_map extensions_at (map (message_place path proto3) ds)
+    ∙ ap (λ (fs : List FieldDescriptor). flat_map extensions_at (map (message_body path proto3) ds)
     ++ fs)
     (fields_within (package_scope file.«package») file.extension))
 
 all_extensions : (files : List FileDescriptor)
-    → flat_map extensions_at (flat_map places files) ≡ flat_map extensions_declared_in files
+    → flat_map extensions_at (flat_map bodies_in files) ≡ flat_map extensions_declared_in files
 all_extensions [] = refl
-all_extensions (f ∷ fs) = flat_map-append extensions_at (places f) (flat_map places fs)
-    ∙ ap (λ z. z ++ flat_map extensions_at (flat_map places fs)) (extensions_are f)
+all_extensions (f ∷ fs) = flat_map-append extensions_at (bodies_in f) (flat_map bodies_in fs)
+    ∙ ap (λ z. z ++ flat_map extensions_at (flat_map bodies_in fs)) (extensions_are f)
     ∙ ap (λ z. extensions_declared_in f ++ z) (all_extensions fs)
 
 pub among_left : {X : Type 0} (xs ys : List X) (x : X) → Among xs x → Among (xs ++ ys) x
@@ -235,35 +235,36 @@ among_map f [] x h = elim h [ ]
 among_map f (y ∷ xs) x here = here
 among_map f (y ∷ xs) x (there h) = there (among_map f xs x h)
 
--- each message that is declared has its place
+-- each message that is declared has its body
 placed : (files : List FileDescriptor) (d : Declaration)
     → Among (flat_map messages_declared_in files) d
-    → (path : Text) × (proto3 : Bool) × Among (flat_map places files) (message_place path proto3 d)
+    → (path : Text) × (proto3 : Bool)
+    × Among (flat_map bodies_in files) (message_body path proto3 d)
 placed [] d h = elim h [ ]
 placed (f ∷ fs) d h = at (among_append (messages_declared_in f) _ d h) (placed fs d)
   where
     at : Among (messages_declared_in f) d ⊎ Among (flat_map messages_declared_in fs) d
         → (Among (flat_map messages_declared_in fs) d
         → (path : Text) × (proto3 : Bool)
-        × Among (flat_map places fs) (message_place path proto3 d))
+        × Among (flat_map bodies_in fs) (message_body path proto3 d))
         → (path : Text) × (proto3 : Bool)
-        × Among (flat_map places (f ∷ fs)) (message_place path proto3 d)
+        × Among (flat_map bodies_in (f ∷ fs)) (message_body path proto3 d)
     at (inl a) more = (
       file_path f,
       is_proto3 f,
-      among_left (places f) (flat_map places fs) _
-          (among_left (map (message_place (file_path f) (is_proto3 f)) (messages_declared_in f)) _ _
-          (among_map (message_place (file_path f) (is_proto3 f)) (messages_declared_in f) d a)),
+      among_left (bodies_in f) (flat_map bodies_in fs) _
+          (among_left (map (message_body (file_path f) (is_proto3 f)) (messages_declared_in f)) _ _
+          (among_map (message_body (file_path f) (is_proto3 f)) (messages_declared_in f) d a)),
     )
     at (inr b) more =
         let rest = more b in
-        (rest.0, rest.1, among_right (places f) (flat_map places fs) _ rest.2)
+        (rest.0, rest.1, among_right (bodies_in f) (flat_map bodies_in fs) _ rest.2)
 
 pub apart : NumbersAreApart
 apart files e d among =
     let found = placed files d among in
-    let p = message_place found.0 found.1 d in
-    let ps = flat_map places files in
+    let p = message_body found.0 found.1 d in
+    let ps = flat_map bodies_in files in
     let few = few_after ps [] ps (none_left (breaches_after ps [] ps) _ e) (λ t. omega arith) in
     distinct (d.parts.field ++ extensions_extending files d.name)
     (λ n.

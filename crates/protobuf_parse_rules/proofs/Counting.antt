@@ -15,9 +15,9 @@ use Rattle.protobuf_parse_rules.specs.Claims.{Claim, Thing, conflict, conflicts,
 use Rattle.protobuf_parse_rules.specs.Claims.{same_thing}
 use Rattle.protobuf_parse_rules.specs.Law.{is_number_in_use}
 use Rattle.protobuf_parse_rules.specs.Numbers.{claims, number_rule}
-use Rattle.protobuf_parse_rules.specs.Places.{Place}
+use Rattle.protobuf_parse_rules.specs.Bodies.{BodyParts}
 use Rattle.protobuf_parse_rules.specs.Rules.{Breach}
-use Rattle.protobuf_parse_rules.specs.Violations.{breaches_after, breaches_of_place}
+use Rattle.protobuf_parse_rules.specs.Violations.{breaches_after, breaches_of_body}
 use Rattle.protobuf_parse_rules.proofs.Claiming.{thing_is}
 
 abbrev pub one_if : Bool → ℕ
@@ -108,16 +108,16 @@ few_claims before (c ∷ cs) e few t =
     let same : (before ++ c ∷ []) ++ cs ≡ before ++ (c ∷ cs) = append_assoc before (c ∷ []) cs in
     subst (λ z. claimed t z ≤ 1) same more
 
--- Where nothing is told of numbers in use in places, each thing is claimed at most once there.
-pub few_after : (all : List Place) (before : List Claim) (ps : List Place)
+-- Where nothing is told of numbers in use in bodies, each thing is claimed at most once there.
+pub few_after : (all : List BodyParts) (before : List Claim) (ps : List BodyParts)
     → filter told (breaches_after all before ps) ≡ [] → ((t : Thing) → claimed t before ≤ 1)
     → (t : Thing) → claimed t (before ++ flat_map claims ps) ≤ 1
 few_after all before [] e few t = rw (append-nil before) (few t)
 few_after all before (p ∷ ps) e few t =
     let at_p = none_left (conflicts number_rule before (claims p)) _
-    (none_left (breaches_of_place all before p) _ e) in
+    (none_left (breaches_of_body all before p) _ e) in
     let more = few_after all (before ++ claims p) ps
-    (none_right (breaches_of_place all before p) _ e) (few_claims before (claims p) at_p few) t in
+    (none_right (breaches_of_body all before p) _ e) (few_claims before (claims p) at_p few) t in
     subst (λ z. claimed t z ≤ 1) (append_assoc before (claims p) (flat_map claims ps)) more
 
 -- ---- numbers of which each stands once are distinct

@@ -1,5 +1,6 @@
 -- Keys of which none of those that share a slot stands twice.
-use Rattle.std.proofs.Common.{◌≡◌, ◌≢◌, ℕ, ◌+◌, ◌*◌, ◌≤◌, ◌<◌, ◌%◌, Bool, true, false, cond, List, []}
+use Rattle.std.proofs.Common.{◌≡◌, ◌≢◌, ℕ, ◌+◌, ◌*◌, ◌≤◌, ◌<◌, ◌%◌, Bool, true, false, cond, List}
+use Rattle.std.proofs.Common.{[]}
 use Rattle.std.proofs.Common.{◌∷◌, ◌++◌, refl, sym, ap, subst, ◌∙◌, append-nil, arith, length, inl}
 use Rattle.std.proofs.Common.{inr, get_or, set, map, take, drop, length-set}
 use Rattle.std.proofs.Math.Dec.{eqb}

@@ -9,7 +9,7 @@ use Rattle.protobuf_parse_rules.specs.ClaimsKept.{holder_view}
 use Rattle.protobuf_parse_rules.specs.Known.{Finds}
 use Rattle.protobuf_parse_rules.specs.KnownFiles.{Tells, known_file, path_named}
 use Rattle.protobuf_parse_rules.specs.Names.{Named, name_claim, name_rule, names_at, names_in_use}
-use Rattle.protobuf_parse_rules.specs.Places.{Place}
+use Rattle.protobuf_parse_rules.specs.Bodies.{BodyParts}
 use Rattle.protobuf_parse_rules.specs.Rules.{Breach}
 use Rattle.protobuf_parse_rules.specs.Runtimes.{declaring_file, file_at, runtime_breaches}
 use Rattle.protobuf_parse_rules.specs.declared.claims.Holder.{Holder}
@@ -51,7 +51,7 @@ holders_are : (h : Option Holder)
 holders_are None = refl
 holders_are (Some h) = refl
 
-pub file_found : (all : List Place) (name : Text) (found : Option Holder)
+pub file_found : (all : List BodyParts) (name : Text) (found : Option Holder)
     → option_map holder_view found
     ≡ option_map who_of (first_claim (map name_claim (flat_map names_at all)) (name_thing name))
     → option_map file_of_holder found ≡ declaring_file all name
@@ -63,11 +63,11 @@ file_found all name found is =
     ∙ files_are (find (λ (n : Named). bytes_eq n.name name) (flat_map names_at all))
 
 -- names, and then runtimes
-pub declared_told : (old mid new : List Breach) (all : List Place) (named : List Named)
+pub declared_told : (old mid new : List Breach) (all : List BodyParts) (named : List Named)
     (d : Declared) → named ≡ flat_map names_at all → Knows d.first (map name_claim named)
     → Finds known_file path_named d.files (flat_map file_at all)
     → mid ≡ old ++ conflicts name_rule [] (map name_claim named)
-    → ((ps : List Place) → Tells d ps → new ≡ mid ++ flat_map (runtime_breaches ps) all)
+    → ((ps : List BodyParts) → Tells d ps → new ≡ mid ++ flat_map (runtime_breaches ps) all)
     → new ≡ old ++ (names_in_use all ++ flat_map (runtime_breaches all) all)
 declared_told old mid new all named d is knows files names runtimes =
     let tells : Tells d all = record {

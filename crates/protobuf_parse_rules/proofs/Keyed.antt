@@ -18,8 +18,8 @@ use Rattle.protobuf_parse_rules.specs.Names.{Named, both_named, enum_named, fiel
 use Rattle.protobuf_parse_rules.specs.Names.{methods_named, named_in, names_at, oneofs_named}
 use Rattle.protobuf_parse_rules.specs.Names.{own_named, package_named, packages_named}
 use Rattle.protobuf_parse_rules.specs.Names.{service_named, values_named}
-use Rattle.protobuf_parse_rules.specs.Places.{Content, Place, enums_of, extensions_of, of_file}
-use Rattle.protobuf_parse_rules.specs.Places.{of_message}
+use Rattle.protobuf_parse_rules.specs.Bodies.{Content, BodyParts, enums_of, extensions_of, of_file}
+use Rattle.protobuf_parse_rules.specs.Bodies.{of_message}
 use Rattle.protobuf_parse_rules.specs.declared.kind.NamedKind.{NamedKind}
 use Rattle.protobuf_parse_rules.specs.declared.kind.NamedKind.TheVariants as kind
 
@@ -198,9 +198,9 @@ own_others file scope (of_file f) =
     no_others None = refl
     no_others (Some name) = none_others file [] (dotted_parts name)
 
--- ---- all places
+-- ---- all bodies
 
-pub package_keys_are : (ps : List Place)
+pub package_keys_are : (ps : List BodyParts)
     → flat_map (keys_at true) (flat_map names_at ps) ≡ map name_key (flat_map packages_at ps)
 package_keys_are [] = refl
 package_keys_are (p ∷ ps) =
@@ -215,7 +215,7 @@ package_keys_are (p ∷ ps) =
     ∙ ap (λ ks. map name_key (packages_at p) ++ ks) (package_keys_are ps)
     ∙ sym (map-append name_key (packages_at p) (flat_map packages_at ps))
 
-pub other_keys_are : (ps : List Place)
+pub other_keys_are : (ps : List BodyParts)
     → flat_map (keys_at false) (flat_map names_at ps) ≡ flat_map other_keys ps
 other_keys_are [] = refl
 other_keys_are (p ∷ ps) =

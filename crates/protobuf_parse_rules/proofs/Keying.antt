@@ -16,7 +16,7 @@ use Rattle.protobuf_parse_rules.specs.Keys.{claim_key, extension_keys, number_ke
 use Rattle.protobuf_parse_rules.specs.Keys.{thing_key}
 use Rattle.protobuf_parse_rules.specs.Numbers.{claim_of, claims, extension_claim, extension_claims}
 use Rattle.protobuf_parse_rules.specs.Numbers.{field_claims}
-use Rattle.protobuf_parse_rules.specs.Places.{Place, extensions_of, fields_of}
+use Rattle.protobuf_parse_rules.specs.Bodies.{BodyParts, extensions_of, fields_of}
 use Rattle.protobuf_parse_rules.specs.Rules.{Breach}
 use Rattle.protobuf_parse_rules.proofs.Claiming.{thing_is}
 
@@ -121,7 +121,7 @@ pub no_hash_told : {X : Type 0} (rules : Rules) (told : List Breach) (claim : X 
 no_hash_told rules told claim xs keys is apart =
     nothing_claimed name_hash by_hash rules told claim xs keys is apart
 
--- ---- the numbers that a place claims
+-- ---- the numbers that a body claims
 
 extension_keys_are : (file scope : Text) (es : List FieldDescriptor)
     → flat_map extension_keys es ≡ map claim_key (extension_claims file scope es)
@@ -132,7 +132,7 @@ extension_keys_are file scope (e ∷ es) =
     (fused (λ m. claim_of file scope m e) (option_to_list e.extendee))
     ∙ sym (map-append claim_key (extension_claim file scope e) (extension_claims file scope es))
 
-pub number_keys : (p : Place) (keys mid new : List ℕ)
+pub number_keys : (p : BodyParts) (keys mid new : List ℕ)
     → mid ≡ keys ++ map (number_key p.scope) (fields_of p.content)
     → new ≡ mid ++ flat_map extension_keys (extensions_of p.content)
     → new ≡ keys ++ map claim_key (claims p)

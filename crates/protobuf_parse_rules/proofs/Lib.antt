@@ -9,7 +9,7 @@ pub mod Packages
 pub mod Declaring
 pub mod Walking
 pub mod Counting
-pub mod Plain
+pub mod Squeezed
 pub mod Spelling
 pub mod Keyed
 pub mod Lone

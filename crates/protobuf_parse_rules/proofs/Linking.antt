@@ -17,7 +17,7 @@ use Rattle.protobuf_parse_rules.specs.Imports.{declared_in, is_enum_of, is_messa
 use Rattle.protobuf_parse_rules.specs.Imports.{names_there}
 use Rattle.protobuf_parse_rules.specs.KnownUses.{Adds, AddsNames, Link, link_cmp}
 use Rattle.protobuf_parse_rules.specs.Lookups.{NamedEnum, NamedMessage, enum_named, message_named}
-use Rattle.protobuf_parse_rules.specs.Places.{Place}
+use Rattle.protobuf_parse_rules.specs.Bodies.{BodyParts}
 
 -- ---- truth values
 
@@ -70,7 +70,7 @@ adds_none : (a : BTreeSet Link) (p : Link → Bool) → ((k : Link) → p k ≡ 
 adds_none a p none k = sym (ap (λ z. contains link_cmp a k || z) (none k)
     ∙ or_false (contains link_cmp a k))
 
-module _ (all : List Place) where
+module _ (all : List BodyParts) where
   pub names_none : (a : BTreeSet Link) (file : Text) → AddsNames all a a file []
   names_none a file = adds_none a (λ (k : Link). names_there all file [] k.0.now k.1.now)
       (λ k. and_false (bytes_eq file k.0.now))

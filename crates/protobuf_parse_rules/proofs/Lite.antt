@@ -6,9 +6,9 @@ use Rattle.std.specs.List.{flat_map, list_any}
 use Rattle.std.specs.Option.{option_map_or}
 use Rattle.std.proofs.lemmas.List.Folds.{list_any-append}
 use Rattle.protobuf_parse_model.specs.Descriptors.{Text}
-use Rattle.protobuf_parse_rules.specs.KnownFiles.{is_lite_place}
-use Rattle.protobuf_parse_rules.specs.Places.{Content, Place, extensions_of, of_file}
-use Rattle.protobuf_parse_rules.specs.Places.{of_message}
+use Rattle.protobuf_parse_rules.specs.KnownFiles.{is_lite_body}
+use Rattle.protobuf_parse_rules.specs.Bodies.{Content, BodyParts, extensions_of, of_file}
+use Rattle.protobuf_parse_rules.specs.Bodies.{of_message}
 use Rattle.protobuf_parse_rules.specs.Rules.{Site, breaches_at, broken_by}
 use Rattle.protobuf_parse_rules.specs.Runtimes.{NamedFile, file_at, file_in, has_generic_services}
 use Rattle.protobuf_parse_rules.specs.Runtimes.{is_lite, is_lite_path, lite_extension, lite_file}
@@ -43,13 +43,13 @@ found_none (f ∷ fs) path e =
     at true more = left (is_lite_file f) (list_any is_lite_file fs) e
     at false more = more
 
-any_file : (all : List Place)
-    → list_any is_lite_file (flat_map file_at all) ≡ list_any is_lite_place all
+any_file : (all : List BodyParts)
+    → list_any is_lite_file (flat_map file_at all) ≡ list_any is_lite_body all
 any_file [] = refl
 any_file (p ∷ ps) = list_any-append is_lite_file (file_at p) (flat_map file_at ps)
-    ∙ ap (λ b. is_lite_place p || b) (any_file ps)
+    ∙ ap (λ b. is_lite_body p || b) (any_file ps)
 
-module _ (all : List Place) (none : (path : Text) → is_lite_path all path ≡ false) where
+module _ (all : List BodyParts) (none : (path : Text) → is_lite_path all path ≡ false) where
   no_import : (site : Site) (paths : List Text) → flat_map (lite_import all site) paths ≡ []
   no_import site [] = refl
   no_import site (path ∷ paths) =
@@ -70,22 +70,22 @@ module _ (all : List Place) (none : (path : Text) → is_lite_path all path ≡ 
       (flat_map (lite_service file scope) f.service) [])
       other
 
-  no_runtime : (p : Place) → is_lite_place p ≡ false → runtime_breaches all p ≡ []
+  no_runtime : (p : BodyParts) → is_lite_body p ≡ false → runtime_breaches all p ≡ []
   no_runtime p e =
       ap (λ b. cond b (flat_map (lite_extension all p.file p.scope) (extensions_of p.content)) []
       ++ lite_file all p.file p.scope p.content) (none p.file)
       ∙ no_file p.file p.scope p.content e
 
-  no_runtimes : (ps : List Place) → list_any is_lite_place ps ≡ false
+  no_runtimes : (ps : List BodyParts) → list_any is_lite_body ps ≡ false
       → flat_map (runtime_breaches all) ps ≡ []
   no_runtimes [] e = refl
   no_runtimes (p ∷ ps) e =
       ap (λ bs. bs ++ flat_map (runtime_breaches all) ps)
-      (no_runtime p (left (is_lite_place p) (list_any is_lite_place ps) e))
-      ∙ no_runtimes ps (right (is_lite_place p) (list_any is_lite_place ps) e)
+      (no_runtime p (left (is_lite_body p) (list_any is_lite_body ps) e))
+      ∙ no_runtimes ps (right (is_lite_body p) (list_any is_lite_body ps) e)
 
 -- Then nothing is told of runtimes.
-pub nothing_lite : (all : List Place) → list_any is_lite_place all ≡ false
+pub nothing_lite : (all : List BodyParts) → list_any is_lite_body all ≡ false
     → flat_map (runtime_breaches all) all ≡ []
 nothing_lite all e =
     no_runtimes all (λ path. found_none (flat_map file_at all) path (any_file all ∙ e)) all e

@@ -30,25 +30,26 @@ named_more ns n i = list_any-append (names_position i) ns (n ∷ [])
 -- ---- the position that a number names
 
 -- It is one of the positions, and no other is.
-record Names (count place : ℕ) (n : ℤ) : Type 0 where
-  within : place < count
-  here : names_position place n ≡ true
-  others : (j : ℕ) → j ≢ place → names_position j n ≡ false
+record Names (count position : ℕ) (n : ℤ) : Type 0 where
+  within : position < count
+  here : names_position position n ≡ true
+  others : (j : ℕ) → j ≢ position → names_position j n ≡ false
 
-names_this : (count place i : ℕ) (b : Bool) → nat_lt i count ≡ b
-    → (if b then Some i else None) ≡ Some place → Names count place (pos i)
-names_this count place i false lt e = absurd cc
-names_this count place i true lt e =
-    let same : i ≡ place = cc in
+names_this : (count position i : ℕ) (b : Bool) → nat_lt i count ≡ b
+    → (if b then Some i else None) ≡ Some position → Names count position (pos i)
+names_this count position i false lt e = absurd cc
+names_this count position i true lt e =
+    let same : i ≡ position = cc in
     record {
       within = subst (λ z. z < count) same (ltb-true i count lt);
-      here = eq-eqb i place same;
+      here = eq-eqb i position same;
       others = λ j other. ne_eqb i j (λ h. other (sym h ∙ same));
     }
 
-names_one : (count place : ℕ) (n : ℤ) → named_among count n ≡ Some place → Names count place n
-names_one count place (pos i) e = names_this count place i (nat_lt i count) refl e
-names_one count place (negsuc i) e = absurd cc
+names_one : (count position : ℕ) (n : ℤ) → named_among count n ≡ Some position
+    → Names count position n
+names_one count position (pos i) e = names_this count position i (nat_lt i count) refl e
+names_one count position (negsuc i) e = absurd cc
 
 names_no_position : (count i : ℕ) (b : Bool) → nat_lt i count ≡ b
     → (if b then Some i else None) ≡ None → (j : ℕ) → j < count → (i == j) ≡ false
@@ -73,19 +74,19 @@ marks_same ns n count marks none m = record {
       ∙ or_false (is_named ns i));
 }
 
-pub marks_more : (ns : List ℤ) (n : ℤ) (count place : ℕ) (marks : List Bool)
-    → named_among count n ≡ Some place → Marks ns count marks
-    → Marks (ns ++ n ∷ []) count (set marks place true)
-marks_more ns n count place marks says m =
-    let s = names_one count place n says in
+pub marks_more : (ns : List ℤ) (n : ℤ) (count position : ℕ) (marks : List Bool)
+    → named_among count n ≡ Some position → Marks ns count marks
+    → Marks (ns ++ n ∷ []) count (set marks position true)
+marks_more ns n count position marks says m =
+    let s = names_one count position n says in
     record {
-      long = length-set marks place true ∙ m.long;
-      each = λ i d h. elim (eqb_tells i place) [
-        | inl same ↦ get_or-set_at marks place i true d same.1 (omega (arith, m.long, s.within))
+      long = length-set marks position true ∙ m.long;
+      each = λ i d h. elim (eqb_tells i position) [
+        | inl same ↦ get_or-set_at marks position i true d same.1 (omega (arith, m.long, s.within))
             ∙ sym (named_more ns n i
             ∙ ap (λ j. is_named ns i || names_position j n) same.1
             ∙ ap (λ b. is_named ns i || b) s.here ∙ or_true (is_named ns i))
-        | inr other ↦ get_or-set_other marks place i true d other.1 ∙ m.each i d h
+        | inr other ↦ get_or-set_other marks position i true d other.1 ∙ m.each i d h
             ∙ sym (named_more ns n i ∙ ap (λ b. is_named ns i || b) (s.others i other.1)
             ∙ or_false (is_named ns i))
       ];

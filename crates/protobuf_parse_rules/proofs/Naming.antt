@@ -16,7 +16,7 @@ use Rattle.std.proofs.lemmas.Bool.Decides.{nat_tests}
 use Rattle.std.proofs.lemmas.Map.Text.{is_eq-slice_cmp}
 use Rattle.protobuf_parse_model.specs.Descriptors.{EnumDescriptor, Text}
 use Rattle.protobuf_parse_rules.specs.Lookups.{NamedEnum, NamedMessage}
-use Rattle.protobuf_parse_rules.specs.Places.{Content}
+use Rattle.protobuf_parse_rules.specs.Bodies.{Content}
 use Rattle.protobuf_parse_rules.specs.Keys.{text_key}
 use Rattle.protobuf_parse_rules.specs.Known.{Finds, Keyed, keyed, keyed_cmp}
 use Rattle.protobuf_parse_rules.proofs.Claiming.{is_eq-then, or_none}

@@ -18,8 +18,8 @@ use Rattle.protobuf_parse_rules.specs.Maps.{is_entry, is_no_key}
 use Rattle.protobuf_parse_rules.specs.MessageSets.{is_message_set}
 use Rattle.protobuf_parse_rules.specs.Ordinary.{bars_nothing, is_group_or_enum, is_nil}
 use Rattle.protobuf_parse_rules.specs.Ordinary.{keeps_nothing}
-use Rattle.protobuf_parse_rules.specs.Places.{Content, Place, extension_ranges, reserved_names}
-use Rattle.protobuf_parse_rules.specs.Places.{reserved_ranges}
+use Rattle.protobuf_parse_rules.specs.Bodies.{Content, BodyParts, extension_ranges, reserved_names}
+use Rattle.protobuf_parse_rules.specs.Bodies.{reserved_ranges}
 use Rattle.protobuf_parse_rules.specs.Proto3.{is_group}
 use Rattle.protobuf_parse_rules.specs.Ranges.{in_ranges, is_among}
 use Rattle.protobuf_parse_rules.specs.Rules.{Broken, Site, breaches_at, broken_by, broken_if}
@@ -85,14 +85,14 @@ other_kind kind.Sfixed64 e = (refl, refl)
 other_kind kind.Sint32 e = (refl, refl)
 other_kind kind.Sint64 e = (refl, refl)
 
-module _ (all : List Place) (f : FieldDescriptor) where
+module _ (all : List BodyParts) (f : FieldDescriptor) where
   pub no_enum : (r : NamedEnum → Option Broken) → is_enum f.type_ ≡ false → of_enum all r f ≡ None
   no_enum r e = ap (λ b. option_and_then r
       (if b then option_and_then (enum_named all) f.type_name else None)) e
 
 -- ---- by the message
 
-module _ (all : List Place) (content : Content) (f : FieldDescriptor) where
+module _ (all : List BodyParts) (content : Content) (f : FieldDescriptor) where
   pub no_map_value : (o : Option NamedEnum) → is_entry content ≡ false
       → option_and_then (map_value content f) o ≡ None
   no_map_value None e = refl

@@ -1,4 +1,4 @@
--- Places of messages.
+-- Bodies of messages.
 use Rattle.std.proofs.Common.{◌≡◌, List, [], ◌∷◌, ◌++◌, map, refl, sym, ap, ◌∙◌, append_assoc}
 use Rattle.std.proofs.Common.{Bool}
 use Rattle.std.specs.List.{flat_map}
@@ -11,7 +11,7 @@ use Rattle.protobuf_parse_model.specs.Descriptors.{message_parts, message_view}
 use Rattle.protobuf_parse_model.proofs.Levels.{message_view_is}
 use Rattle.protobuf_parse_wire.specs.Declarations.{Declaration, name_within, declared_message}
 use Rattle.protobuf_parse_wire.specs.Declarations.{declared_messages}
-use Rattle.protobuf_parse_rules.specs.Places.{Place, message_place}
+use Rattle.protobuf_parse_rules.specs.Bodies.{BodyParts, message_body}
 
 pub declared_list : (scope : Text) (ms : List MessageDescriptor)
     → declared_messages scope (messages_of_list ms) ≡ flat_map (declared_message scope) ms
@@ -33,14 +33,14 @@ message_declared scope name m named =
     ∙ ap (λ ds. record { name = name; parts = message_parts m } ∷ ds)
     (declared_list name (map message_view (out-DescriptorProto m).nested_type.items))
 
--- places behind places
-pub places_more : (path : Text) (proto3 : Bool) (old mid new : List Place)
+-- bodies behind bodies
+pub bodies_more : (path : Text) (proto3 : Bool) (old mid new : List BodyParts)
     (ds es all : List Declaration)
-    → mid ≡ old ++ map (message_place path proto3) ds → new ≡ mid
-    ++ map (message_place path proto3) es
-    → all ≡ ds ++ es → new ≡ old ++ map (message_place path proto3) all
-places_more path proto3 old mid new ds es all p q e =
-    q ∙ ap (λ z. z ++ map (message_place path proto3) es) p
-    ∙ append_assoc old (map (message_place path proto3) ds) (map (message_place path proto3) es)
-    ∙ ap (λ z. old ++ z) (sym (map-append (message_place path proto3) ds es))
-    ∙ ap (λ z. old ++ map (message_place path proto3) z) (sym e)
+    → mid ≡ old ++ map (message_body path proto3) ds → new ≡ mid
+    ++ map (message_body path proto3) es
+    → all ≡ ds ++ es → new ≡ old ++ map (message_body path proto3) all
+bodies_more path proto3 old mid new ds es all p q e =
+    q ∙ ap (λ z. z ++ map (message_body path proto3) es) p
+    ∙ append_assoc old (map (message_body path proto3) ds) (map (message_body path proto3) es)
+    ∙ ap (λ z. old ++ z) (sym (map-append (message_body path proto3) ds es))
+    ∙ ap (λ z. old ++ map (message_body path proto3) z) (sym e)

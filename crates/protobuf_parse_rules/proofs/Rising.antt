@@ -19,8 +19,8 @@ use Rattle.protobuf_parse_rules.specs.Customs.{are_any}
 use Rattle.protobuf_parse_rules.specs.Keys.{text_key}
 use Rattle.protobuf_parse_rules.specs.Numbers.{claim_of, claims, extension_claims, field_claims}
 use Rattle.protobuf_parse_rules.specs.Numbers.{number_rule}
-use Rattle.protobuf_parse_rules.specs.Places.{Content, Place, extensions_of, fields_of, of_file}
-use Rattle.protobuf_parse_rules.specs.Places.{of_message}
+use Rattle.protobuf_parse_rules.specs.Bodies.{Content, BodyParts, extensions_of, fields_of, of_file}
+use Rattle.protobuf_parse_rules.specs.Bodies.{of_message}
 use Rattle.protobuf_parse_rules.proofs.Claiming.{conflicts-append, thing_is}
 use Rattle.protobuf_parse_rules.proofs.Covering.{is_below, is_not_below}
 use Rattle.protobuf_parse_rules.proofs.Lone.{eqb_same}
@@ -178,12 +178,12 @@ more_new file scope before fs (k ∷ ks) new other = (
 )
 
 -- where nothing is extended
-none_extended : (p : Place) (es : List FieldDescriptor) → are_any es ≡ false
+none_extended : (p : BodyParts) (es : List FieldDescriptor) → are_any es ≡ false
     → extension_claims p.file p.scope es ≡ []
 none_extended p [] e = refl
 none_extended p (x ∷ xs) e = absurd cc
 
-only_fields : (p : Place) → is_mixed p ≡ false
+only_fields : (p : BodyParts) → is_mixed p ≡ false
     → claims p ≡ field_claims p.file p.scope (fields_of p.content)
 only_fields p e =
     ap (λ cs. field_claims p.file p.scope (fields_of p.content) ++ cs)
@@ -196,12 +196,12 @@ untrue : (b : Bool) → not b ≡ false → b ≡ true
 untrue true e = refl
 untrue false e = absurd cc
 
-ascending : (p : Place) → is_mixed p ≡ false → ascend_from (pos 0) (fields_of p.content) ≡ true
+ascending : (p : BodyParts) → is_mixed p ≡ false → ascend_from (pos 0) (fields_of p.content) ≡ true
 ascending p e = untrue (ascend_from (pos 0) (fields_of p.content))
     (right (are_any (extensions_of p.content))
     (not (ascend_from (pos 0) (fields_of p.content))) e)
 
--- those of one place, and then of others
+-- those of one body, and then of others
 one_more : (file scope : Text) (content : Content) (before rest : List Claim) (keys : List ℕ)
     → ascend_from (pos 0) (fields_of content) ≡ true
     → IsDistinct eqb (map text_key (scopes_in scope content) ++ keys)
@@ -220,7 +220,7 @@ one_more file scope (of_message m) before rest keys up apart new next =
 one_more file scope (of_file f) before rest keys up apart new next =
     ap (λ cs. conflicts number_rule cs rest) (append-nil before) ∙ next before apart new
 
-rising : (before : List Claim) (ps : List Place) → list_any is_mixed ps ≡ false
+rising : (before : List Claim) (ps : List BodyParts) → list_any is_mixed ps ≡ false
     → IsDistinct eqb (map text_key (flat_map message_scopes ps))
     → AreNew before (map text_key (flat_map message_scopes ps))
     → conflicts number_rule before (flat_map claims ps) ≡ []
@@ -237,7 +237,7 @@ rising before (p ∷ ps) e apart new =
     (subst (IsDistinct eqb) keys apart) (subst (AreNew before) keys new)
     (λ more more_apart more_new. rising more ps rest more_apart more_new)
 
-pub rising_apart : (ps : List Place) → list_any is_mixed ps ≡ false
+pub rising_apart : (ps : List BodyParts) → list_any is_mixed ps ≡ false
     → IsDistinct eqb (map text_key (flat_map message_scopes ps))
     → conflicts number_rule [] (flat_map claims ps) ≡ []
 rising_apart ps e apart =

@@ -18,14 +18,15 @@ use Rattle.std.proofs.lemmas.Str.Ascii.{lowercase_ascii, lowercase_is, lowercase
 use Rattle.std.proofs.lemmas.Str.Ascii.{lowercase-uppercase}
 use Rattle.protobuf_parse_base.specs.Cases.{joined_words}
 use Rattle.protobuf_parse_model.specs.Descriptors.{Text, EnumValueDescriptor}
-use Rattle.protobuf_parse_rules.specs.Alike.{Spelled, behind, lower, or_else, plain, spelled_claim}
+use Rattle.protobuf_parse_rules.specs.Alike.{Spelled, behind, lower, or_else, squeezed}
+use Rattle.protobuf_parse_rules.specs.Alike.{spelled_claim}
 use Rattle.protobuf_parse_rules.specs.Alike.{spelled_value, words}
 use Rattle.protobuf_parse_rules.specs.Claims.{Claim, Rules, Thing, conflicts}
-use Rattle.protobuf_parse_rules.specs.Keys.{mixed, no_text, plain_mixed, spelling_keys, text_key}
+use Rattle.protobuf_parse_rules.specs.Keys.{mixed, no_text, squeezed_mixed, spelling_keys, text_key}
 use Rattle.protobuf_parse_rules.specs.Rules.{Breach}
 use Rattle.protobuf_parse_rules.proofs.Keying.{nothing_claimed}
-use Rattle.protobuf_parse_rules.proofs.Plain.{folded, letters, letters-encodes, letters-letter}
-use Rattle.protobuf_parse_rules.proofs.Plain.{letters-underscore}
+use Rattle.protobuf_parse_rules.proofs.Squeezed.{folded, letters, letters-encodes, letters-letter}
+use Rattle.protobuf_parse_rules.proofs.Squeezed.{letters-underscore}
 
 -- ---- the letters of a name stay the same where it is put in lower or in camel case
 
@@ -187,15 +188,15 @@ letters-words cs are =
     ∙ ap encode_utf8_all (letters-joined true (lower cs) ∙ letters-lower cs))
 
 words_key : (key : ℕ) (cs : List ℕ) → scalars cs ≡ true
-    → fold plain_mixed key (words cs) ≡ fold mixed key (encode_utf8_all (letters cs))
+    → fold squeezed_mixed key (words cs) ≡ fold mixed key (encode_utf8_all (letters cs))
 words_key key cs are = folded (words cs) key ∙ ap (fold mixed key) (letters-words cs are)
 
 -- the key of the enum's name with how the name is compared behind it is one of the two keys
 one_key : (front cs rest : List ℕ) → scalars cs ≡ true → scalars rest ≡ true
     → (rest ≡ []) ⊎ (letters cs ≡ front ++ letters rest)
-    → (fold plain_mixed (text_key (encode_utf8_all front)) (words (or_else rest cs))
+    → (fold squeezed_mixed (text_key (encode_utf8_all front)) (words (or_else rest cs))
     ≡ text_key (encode_utf8_all (letters cs)))
-    ⊎ (fold plain_mixed (text_key (encode_utf8_all front)) (words (or_else rest cs))
+    ⊎ (fold squeezed_mixed (text_key (encode_utf8_all front)) (words (or_else rest cs))
     ≡ fold mixed (text_key (encode_utf8_all front)) (encode_utf8_all (letters cs)))
 one_key front cs [] are rest_are at = inr (words_key (text_key (encode_utf8_all front)) cs are)
 one_key front cs (r ∷ rs) are rest_are (inl none) =
@@ -255,37 +256,38 @@ twice f g (x ∷ xs) = ap (λ ks. f (g x) ∷ ks) (twice f g xs)
 -- the two keys of one value more
 pub two_more : (front : ℕ) (v : EnumValueDescriptor) (name : Text) (old mid new : List ℕ)
     (one two : ℕ) → mid ≡ old ++ one ∷ [] → new ≡ mid ++ two ∷ []
-    → one ≡ text_key (encode_utf8_all (plain name))
-    → two ≡ fold mixed front (encode_utf8_all (plain name)) → name ≡ v.name
+    → one ≡ text_key (encode_utf8_all (squeezed name))
+    → two ≡ fold mixed front (encode_utf8_all (squeezed name)) → name ≡ v.name
     → new ≡ old ++ spelling_keys front v
 two_more front v name old mid new one two first second one_is two_is is =
     second
     ∙ ap (λ ks. ks ++ two ∷ []) first
     ∙ append_assoc old (one ∷ []) (two ∷ [])
     ∙ ap₂ (λ a b. old ++ a ∷ b ∷ [])
-    (one_is ∙ ap (λ n. text_key (encode_utf8_all (plain n))) is)
-    (two_is ∙ ap (λ n. fold mixed front (encode_utf8_all (plain n))) is)
+    (one_is ∙ ap (λ n. text_key (encode_utf8_all (squeezed n))) is)
+    (two_is ∙ ap (λ n. fold mixed front (encode_utf8_all (squeezed n))) is)
 
 module _ (name : Text) where
   abbrev front_key : ℕ
-  front_key = text_key (encode_utf8_all (plain name))
+  front_key = text_key (encode_utf8_all (squeezed name))
 
   abbrev compared_key : EnumValueDescriptor → ℕ
-  compared_key v = fold plain_mixed front_key (spelled_value (plain name) v).key
+  compared_key v = fold squeezed_mixed front_key (spelled_value (squeezed name) v).key
 
   abbrev own_key : EnumValueDescriptor → ℕ
-  own_key v = text_key (encode_utf8_all (plain v.name))
+  own_key v = text_key (encode_utf8_all (squeezed v.name))
 
   abbrev longer_key : EnumValueDescriptor → ℕ
-  longer_key v = fold mixed front_key (encode_utf8_all (plain v.name))
+  longer_key v = fold mixed front_key (encode_utf8_all (squeezed v.name))
 
   value_key : (v : EnumValueDescriptor) → IsUtf8 v.name
       → (compared_key v ≡ own_key v) ⊎ (compared_key v ≡ longer_key v)
   value_key v utf8 =
       let cs = chars v.name in
       let are = scalars-chars v.name utf8 in
-      one_key (plain name) cs (behind (plain name) cs) are (scalars-behind (plain name) cs are)
-      (front_letters (plain name) cs)
+      one_key (squeezed name) cs (behind (squeezed name) cs) are
+      (scalars-behind (squeezed name) cs are)
+      (front_letters (squeezed name) cs)
 
   value_each : (vs : List EnumValueDescriptor)
       → All (λ (v : EnumValueDescriptor). IsUtf8 v.name) vs
@@ -298,10 +300,10 @@ module _ (name : Text) where
   )
 
   abbrev claim_front_key : Claim → ℕ
-  claim_front_key c = fold plain_mixed front_key c.thing.name
+  claim_front_key c = fold squeezed_mixed front_key c.thing.name
 
   by_compared : (c d : Claim) → c.thing ≡ d.thing → claim_front_key c ≡ claim_front_key d
-  by_compared c d e = ap (λ (t : Thing). fold plain_mixed front_key t.name) e
+  by_compared c d e = ap (λ (t : Thing). fold squeezed_mixed front_key t.name) e
 
   -- Where the two keys of each value differ from all others, nothing is told of the values.
   pub values_apart : (rules : Rules) (told : List Breach) (file scope : Text)
@@ -309,10 +311,11 @@ module _ (name : Text) where
       → keys ≡ flat_map (spelling_keys front_key) vs
       → All (λ (v : EnumValueDescriptor). IsUtf8 v.name) vs → IsDistinct eqb keys
       → told ≡ told ++ conflicts rules []
-      (map (spelled_claim file scope) (map (spelled_value (plain name)) vs))
+      (map (spelled_claim file scope) (map (spelled_value (squeezed name)) vs))
   values_apart rules told file scope vs keys is texts apart =
       nothing_claimed claim_front_key by_compared rules told (spelled_claim file scope)
-      (map (spelled_value (plain name)) vs) (map compared_key vs)
-      (twice (λ (s : Spelled). fold plain_mixed front_key s.key) (spelled_value (plain name)) vs)
+      (map (spelled_value (squeezed name)) vs) (map compared_key vs)
+      (twice (λ (s : Spelled). fold squeezed_mixed front_key s.key)
+      (spelled_value (squeezed name)) vs)
       (one_of_two compared_key own_key longer_key vs (value_each vs texts)
       (subst (IsDistinct eqb) is apart))

@@ -1,16 +1,16 @@
--- All places.
+-- All bodies.
 use Rattle.std.proofs.Common.{◌≡◌, List, [], ◌∷◌, ◌++◌, refl, sym, ap, ◌∙◌, append_assoc, subst}
 use Rattle.std.proofs.Common.{append-nil}
 use Rattle.std.specs.List.{flat_map}
 use Rattle.std.specs.BTreeMap.{BTreeMap}
 use Rattle.std.specs.Global.{Vec}
 use Rattle.std.proofs.lemmas.Grind.{flat_map-append}
-use Rattle.protobuf_parse_rules.specs.Places.{Place}
+use Rattle.protobuf_parse_rules.specs.Bodies.{BodyParts}
 use Rattle.protobuf_parse_rules.specs.Claims.{Claim, conflicts}
 use Rattle.protobuf_parse_rules.specs.ClaimsKept.{Claims, Key, Knows}
 use Rattle.protobuf_parse_rules.specs.Numbers.{claims, number_rule}
 use Rattle.protobuf_parse_rules.specs.Rules.{breaches_told}
-use Rattle.protobuf_parse_rules.specs.Violations.{breaches_after, breaches_of_place}
+use Rattle.protobuf_parse_rules.specs.Violations.{breaches_after, breaches_of_body}
 use Rattle.protobuf_parse_rules.specs.ClaimsKept.{Checks}
 use Rattle.protobuf_parse_rules.specs.Violations.{breaches_inside}
 use Rattle.protobuf_parse_rules.specs.declared.claims.Holder.{Holder}
@@ -18,22 +18,22 @@ use Rattle.protobuf_parse_rules.specs.declared.violation.Violation.{Violation}
 use Rattle.protobuf_parse_rules.proofs.Claiming.{conflicts-append, told_more}
 use Rattle.protobuf_parse_rules.proofs.Counting.{nil_left, nil_right}
 
-pub breaches_after-append : (all : List Place) (before : List Claim) (ps qs : List Place)
+pub breaches_after-append : (all : List BodyParts) (before : List Claim) (ps qs : List BodyParts)
     → breaches_after all before (ps ++ qs)
     ≡ breaches_after all before ps ++ breaches_after all (before ++ flat_map claims ps) qs
 breaches_after-append all before [] qs =
     ap (λ b. breaches_after all b qs) (sym (append-nil before))
 breaches_after-append all before (p ∷ ps) qs =
-    ap (λ bs. breaches_of_place all before p ++ bs)
+    ap (λ bs. breaches_of_body all before p ++ bs)
     (breaches_after-append all (before ++ claims p) ps qs
     ∙ ap (λ b. breaches_after all (before ++ claims p) ps ++ breaches_after all b qs)
     (append_assoc before (claims p) (flat_map claims ps)))
-    ∙ sym (append_assoc (breaches_of_place all before p)
+    ∙ sym (append_assoc (breaches_of_body all before p)
     (breaches_after all (before ++ claims p) ps)
     (breaches_after all (before ++ flat_map claims (p ∷ ps)) qs))
 
--- Where no number is in use, what is told of places is what is wrong in each by itself.
-pub inside_alone : (all : List Place) (before : List Claim) (ps : List Place)
+-- Where no number is in use, what is told of bodies is what is wrong in each by itself.
+pub inside_alone : (all : List BodyParts) (before : List Claim) (ps : List BodyParts)
     → conflicts number_rule before (flat_map claims ps) ≡ []
     → flat_map (breaches_inside all) ps ≡ breaches_after all before ps
 inside_alone all before [] e = refl
@@ -47,7 +47,7 @@ inside_alone all before (p ∷ ps) e =
     ∙ ap (λ bs. (bs ++ breaches_inside all p) ++ breaches_after all (before ++ claims p) ps)
     (sym (nil_left there behind none))
 
-module _ (all : List Place) where
+module _ (all : List BodyParts) where
   pub checks_none : (m : BTreeMap Key Holder) (told : Vec Violation)
       → Checks all m m told told []
   checks_none m told = record {
@@ -57,7 +57,7 @@ module _ (all : List Place) where
     );
   }
 
-  pub checks_more : (a b c : BTreeMap Key Holder) (t u v : Vec Violation) (ps qs : List Place)
+  pub checks_more : (a b c : BTreeMap Key Holder) (t u v : Vec Violation) (ps qs : List BodyParts)
       → Checks all a b t u ps → Checks all b c u v qs → Checks all a c t v (ps ++ qs)
   checks_more a b c t u v ps qs p q = record {
     at = λ before knows.
@@ -70,8 +70,8 @@ module _ (all : List Place) where
         );
   }
 
-  -- a place: its numbers, and then what is in it
-  pub checks_one : (m n : BTreeMap Key Holder) (t u v : Vec Violation) (p : Place)
+  -- a body: its numbers, and then what is in it
+  pub checks_one : (m n : BTreeMap Key Holder) (t u v : Vec Violation) (p : BodyParts)
       → Claims number_rule m n t u (claims p)
       → breaches_told v ≡ breaches_told u ++ breaches_inside all p
       → Checks all m n t v (p ∷ [])
@@ -82,6 +82,6 @@ module _ (all : List Place) where
           told_more (breaches_told t) (breaches_told u) (breaches_told v)
               (conflicts number_rule before (claims p)) (breaches_inside all p) both.1 inside
               ∙ ap (λ bs. breaches_told t ++ bs)
-              (sym (append-nil (breaches_of_place all before p))),
+              (sym (append-nil (breaches_of_body all before p))),
         );
   }

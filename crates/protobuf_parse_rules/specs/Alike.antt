@@ -14,7 +14,7 @@ use Rattle.protobuf_parse_model.specs.Descriptors.{Text, EnumDescriptor, EnumVal
 use Rattle.protobuf_parse_model.specs.Descriptors.{FieldDescriptor}
 use Rattle.protobuf_parse_wire.specs.Declarations.{name_within}
 use Rattle.protobuf_parse_rules.specs.Claims.{Claim, Rules, conflicts}
-use Rattle.protobuf_parse_rules.specs.Places.{Place, fields_of}
+use Rattle.protobuf_parse_rules.specs.Bodies.{BodyParts, fields_of}
 use Rattle.protobuf_parse_rules.specs.Rules.{Breach}
 use Rattle.protobuf_parse_rules.specs.declared.rule.Rule.TheVariants as rule
 
@@ -42,21 +42,21 @@ abbrev pub is_letter : ℕ → Bool
 is_letter c = not (c == char.underscore)
 
 -- the characters of a name in lower case, without underscores
-abbrev pub plain : Text → List ℕ
-plain name = lower (filter is_letter (chars name))
+abbrev pub squeezed : Text → List ℕ
+squeezed name = lower (filter is_letter (chars name))
 
 -- ---- fields
 
 abbrev pub spelled_field : FieldDescriptor → Spelled
 spelled_field f =
-    record { key = encode_utf8_all (plain f.name); name = f.name; number = f.number }
+    record { key = encode_utf8_all (squeezed f.name); name = f.name; number = f.number }
 
 -- the name is another field's but for case and underscores
 abbrev pub field_alike_rule : Rules
 field_alike_rule c other =
     Some (record { rule = rule.JsonNamesAlike; name = None; by = Some other.name })
 
-abbrev pub fields_alike : Place → List Breach
+abbrev pub fields_alike : BodyParts → List Breach
 fields_alike p = if p.proto3 then conflicts field_alike_rule []
     (map (spelled_claim p.file p.scope) (map spelled_field (fields_of p.content))) else []
 
@@ -98,6 +98,6 @@ value_alike_rule proto3 c other = if int_eq c.who.number other.number then None 
   by = Some other.name;
 })
 
-abbrev pub values_alike : Place → EnumDescriptor → List Breach
+abbrev pub values_alike : BodyParts → EnumDescriptor → List Breach
 values_alike p e = conflicts (value_alike_rule p.proto3) []
-    (map (spelled_claim p.file p.scope) (map (spelled_value (plain e.name)) e.value))
+    (map (spelled_claim p.file p.scope) (map (spelled_value (squeezed e.name)) e.value))

@@ -14,7 +14,7 @@ use Rattle.protobuf_parse_rules.specs.declared.claims.Holder.{Holder}
 use Rattle.protobuf_parse_rules.specs.declared.claims.Thing as code
 use Rattle.protobuf_parse_rules.specs.declared.violation.Violation.{Violation}
 use Rattle.protobuf_parse_rules.specs.Claims.{Claim, Rules, Thing, Who, conflicts, first_claim}
-use Rattle.protobuf_parse_rules.specs.Places.{Place}
+use Rattle.protobuf_parse_rules.specs.Bodies.{BodyParts}
 use Rattle.protobuf_parse_rules.specs.Numbers.{claims}
 use Rattle.protobuf_parse_rules.specs.Violations.{breaches_after}
 
@@ -58,9 +58,9 @@ pub record Claims (rules : Rules) (old new : BTreeMap Key Holder)
       → Knows new (before ++ there)
       × (breaches_told told ≡ breaches_told told_before ++ conflicts rules before there)
 
--- The map took the claims of these places in addition, and what is wrong there was told.
-pub record Checks (all : List Place) (old new : BTreeMap Key Holder)
-    (told_before told : Vec Violation) (there : List Place) : Type 0 where
+-- The map took the claims of these bodies in addition, and what is wrong there was told.
+pub record Checks (all : List BodyParts) (old new : BTreeMap Key Holder)
+    (told_before told : Vec Violation) (there : List BodyParts) : Type 0 where
   pub at : (before : List Claim) → Knows old before
       → Knows new (before ++ flat_map claims there)
       × (breaches_told told ≡ breaches_told told_before ++ breaches_after all before there)

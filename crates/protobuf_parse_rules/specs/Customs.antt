@@ -10,7 +10,7 @@ use Rattle.protobuf_parse_model.specs.Options.{EnumOptionValues, EnumValueOption
 use Rattle.protobuf_parse_model.specs.Options.{FieldOptionValues, FileOptionValues}
 use Rattle.protobuf_parse_model.specs.Options.{MessageOptionValues, MethodOptionValues}
 use Rattle.protobuf_parse_model.specs.Options.{OneofOptionValues, ServiceOptionValues}
-use Rattle.protobuf_parse_rules.specs.Places.{Content, of_file, of_message}
+use Rattle.protobuf_parse_rules.specs.Bodies.{Content, of_file, of_message}
 
 abbrev pub are_any : {X : Type 0} → List X → Bool
 are_any [] = false

@@ -12,7 +12,7 @@ use Rattle.protobuf_parse_model.specs.Descriptors.{FieldDescriptor}
 use Rattle.protobuf_parse_rules.specs.Enums.{not_zero}
 use Rattle.protobuf_parse_rules.specs.Lookups.{NamedEnum, enum_named}
 use Rattle.protobuf_parse_rules.specs.Maps.{is_entry}
-use Rattle.protobuf_parse_rules.specs.Places.{Content, Place}
+use Rattle.protobuf_parse_rules.specs.Bodies.{Content, BodyParts}
 use Rattle.protobuf_parse_rules.specs.Ranges.{is_among}
 use Rattle.protobuf_parse_rules.specs.Rules.{Broken, broken_by}
 use Rattle.protobuf_parse_rules.specs.declared.rule.Rule.TheVariants as rule
@@ -22,12 +22,12 @@ is_enum kind.Enum = true
 is_enum _ = false
 
 -- the enum of a field
-abbrev pub enum_of_field : List Place → FieldDescriptor → Option NamedEnum
+abbrev pub enum_of_field : List BodyParts → FieldDescriptor → Option NamedEnum
 enum_of_field all f =
     if is_enum f.type_ then option_and_then (enum_named all) f.type_name else None
 
 -- what a rule says of a field of that enum
-abbrev pub of_enum : List Place → (NamedEnum → Option Broken) → FieldDescriptor → Option Broken
+abbrev pub of_enum : List BodyParts → (NamedEnum → Option Broken) → FieldDescriptor → Option Broken
 of_enum all r f = option_and_then r (enum_of_field all f)
 
 abbrev pub enum_of_proto2 : (proto3 : Bool) → NamedEnum → Option Broken

@@ -10,7 +10,7 @@ use Rattle.protobuf_parse_model.specs.Descriptors.{Text, EnumDescriptor, EnumVal
 use Rattle.protobuf_parse_model.specs.Options.{EnumOptionValues}
 use Rattle.protobuf_parse_wire.specs.Declarations.{name_within}
 use Rattle.protobuf_parse_rules.specs.Alike.{values_alike}
-use Rattle.protobuf_parse_rules.specs.Places.{Place}
+use Rattle.protobuf_parse_rules.specs.Bodies.{BodyParts}
 use Rattle.protobuf_parse_rules.specs.Claims.{Claim, Rules, conflicts}
 use Rattle.protobuf_parse_rules.specs.Ranges.{is_among}
 use Rattle.protobuf_parse_rules.specs.Repeats.{repeats}
@@ -110,7 +110,7 @@ abbrev pub value_breaches : (file scope : Text) → EnumDescriptor → EnumValue
 value_breaches file scope e v =
     breaches_at (record { file = file; construct = name_within scope v.name }) (value_rules e v)
 
-abbrev pub enum_breaches : Place → EnumDescriptor → List Breach
+abbrev pub enum_breaches : BodyParts → EnumDescriptor → List Breach
 enum_breaches p e =
     let site : Site = record { file = p.file; construct = name_within p.scope e.name } in
     breaches_at site (enum_rules p.proto3 e)

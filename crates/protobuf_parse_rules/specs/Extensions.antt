@@ -9,7 +9,7 @@ use Rattle.protobuf_parse_model.specs.Descriptors.{FieldDescriptor}
 use Rattle.protobuf_parse_rules.specs.FieldOptions.{is_message}
 use Rattle.protobuf_parse_rules.specs.Lookups.{NamedMessage, message_named}
 use Rattle.protobuf_parse_rules.specs.MessageSets.{is_message_set}
-use Rattle.protobuf_parse_rules.specs.Places.{Place, extension_ranges}
+use Rattle.protobuf_parse_rules.specs.Bodies.{BodyParts, extension_ranges}
 use Rattle.protobuf_parse_rules.specs.Proto3.{is_required}
 use Rattle.protobuf_parse_rules.specs.Ranges.{in_ranges}
 use Rattle.protobuf_parse_rules.specs.Rules.{Broken, broken_by, broken_if}
@@ -22,11 +22,11 @@ abbrev pub is_optional : Label → Bool
 is_optional label.Optional = true
 is_optional _ = false
 
-abbrev pub extendee_of : List Place → FieldDescriptor → Option NamedMessage
+abbrev pub extendee_of : List BodyParts → FieldDescriptor → Option NamedMessage
 extendee_of all e = option_and_then (message_named all) e.extendee
 
 -- what a rule says of an extension of that message
-abbrev pub of_extendee : List Place → (NamedMessage → Option Broken) → FieldDescriptor
+abbrev pub of_extendee : List BodyParts → (NamedMessage → Option Broken) → FieldDescriptor
     → Option Broken
 of_extendee all r e = option_and_then r (extendee_of all e)
 

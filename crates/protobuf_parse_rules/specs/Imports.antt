@@ -11,8 +11,8 @@ use Rattle.protobuf_parse_model.specs.Descriptors.{Text, FieldDescriptor, Method
 use Rattle.protobuf_parse_model.specs.Descriptors.{ServiceDescriptor}
 use Rattle.protobuf_parse_rules.specs.Customs.{are_any, sets_custom}
 use Rattle.protobuf_parse_rules.specs.Lookups.{NamedEnum, NamedMessage, enum_named, message_named}
-use Rattle.protobuf_parse_rules.specs.Places.{Content, Place, extensions_of, fields_of, of_file}
-use Rattle.protobuf_parse_rules.specs.Places.{of_message, services_of}
+use Rattle.protobuf_parse_rules.specs.Bodies.{Content, BodyParts, extensions_of, fields_of, of_file}
+use Rattle.protobuf_parse_rules.specs.Bodies.{of_message, services_of}
 use Rattle.protobuf_parse_rules.specs.Positions.{by_position, is_named}
 use Rattle.protobuf_parse_rules.specs.Ranges.{is_among}
 use Rattle.protobuf_parse_rules.specs.Rules.{Breach, Broken, Site, breaches_at, broken_by}
@@ -21,16 +21,16 @@ use Rattle.protobuf_parse_rules.specs.declared.rule.Rule.TheVariants as rule
 
 -- ---- types of another file
 
-abbrev pub is_message_of : List Place → (path name : Text) → Bool
+abbrev pub is_message_of : List BodyParts → (path name : Text) → Bool
 is_message_of all path name =
     option_map_or (λ (m : NamedMessage). bytes_eq m.file path) (message_named all name) false
 
-abbrev pub is_enum_of : List Place → (path name : Text) → Bool
+abbrev pub is_enum_of : List BodyParts → (path name : Text) → Bool
 is_enum_of all path name =
     option_map_or (λ (e : NamedEnum). bytes_eq e.file path) (enum_named all name) false
 
 -- whether the file with that path declares the type with that full name
-abbrev pub declared_in : List Place → (path name : Text) → Bool
+abbrev pub declared_in : List BodyParts → (path name : Text) → Bool
 declared_in all path name = is_message_of all path name || is_enum_of all path name
 
 abbrev pub field_types : FieldDescriptor → List Text
@@ -42,45 +42,45 @@ method_types m = m.input_type ∷ m.output_type ∷ []
 abbrev pub service_types : ServiceDescriptor → List Text
 service_types s = flat_map method_types s.method
 
--- the full names of types that stand in a place
+-- the full names of types that stand in a body
 abbrev pub types_named : Content → List Text
 types_named content = flat_map field_types (fields_of content)
     ++ (flat_map field_types (extensions_of content)
     ++ flat_map service_types (services_of content))
 
 -- whether something with the first path names a type, of these names, of the file with the other
-abbrev pub names_there : List Place → (file : Text) → List Text → (from to : Text) → Bool
+abbrev pub names_there : List BodyParts → (file : Text) → List Text → (from to : Text) → Bool
 names_there all file names from to = bytes_eq file from && list_any (declared_in all to) names
 
-abbrev pub place_names : List Place → (from to : Text) → Place → Bool
-place_names all from to p = names_there all p.file (types_named p.content) from to
+abbrev pub body_names : List BodyParts → (from to : Text) → BodyParts → Bool
+body_names all from to p = names_there all p.file (types_named p.content) from to
 
-abbrev pub file_names : List Place → (from to : Text) → Bool
-file_names all from to = list_any (place_names all from to) all
+abbrev pub file_names : List BodyParts → (from to : Text) → Bool
+file_names all from to = list_any (body_names all from to) all
 
 -- ---- options by extensions of another file
 
 abbrev pub path_if : Bool → Text → List Text
 path_if test path = if test then path ∷ [] else []
 
-abbrev pub setting_path : Place → List Text
+abbrev pub setting_path : BodyParts → List Text
 setting_path p = path_if (sets_custom p.content) p.file
 
-abbrev pub extending_path : Place → List Text
+abbrev pub extending_path : BodyParts → List Text
 extending_path p = path_if (are_any (extensions_of p.content)) p.file
 
 -- whether a file sets custom options anywhere, and another one declares extensions anywhere
-abbrev pub may_set : List Place → (from to : Text) → Bool
+abbrev pub may_set : List BodyParts → (from to : Text) → Bool
 may_set all from to =
     is_among to (flat_map extending_path all) && is_among from (flat_map setting_path all)
 
-abbrev pub is_needed : List Place → (from path : Text) → Bool
+abbrev pub is_needed : List BodyParts → (from path : Text) → Bool
 is_needed all from path = file_names all from path || may_set all from path
 
 -- ---- imports
 
 -- the file with that path is there, and hands on no imports
-abbrev pub hands_on_none : List Place → (path : Text) → Bool
+abbrev pub hands_on_none : List BodyParts → (path : Text) → Bool
 hands_on_none all path =
     option_map_or (λ (f : NamedFile). not (are_any f.what.public_dependency)) (file_named all path)
     false
@@ -89,27 +89,27 @@ hands_on_none all path =
 abbrev pub is_of_options : (path : Text) → Bool
 is_of_options path = bytes_eq path (codes "google/protobuf/descriptor.proto")
 
-abbrev pub is_unused : List Place → (from path : Text) → Bool
+abbrev pub is_unused : List BodyParts → (from path : Text) → Bool
 is_unused all from path =
     (hands_on_none all path && not (is_of_options path)) && not (is_needed all from path)
 
-abbrev pub unused_import : List Place → (from : Text) → (handed_on : Bool) → (path : Text)
+abbrev pub unused_import : List BodyParts → (from : Text) → (handed_on : Bool) → (path : Text)
     → Option Broken
 unused_import all from handed_on path = if not handed_on && is_unused all from path
     then Some (broken_by rule.ImportUnused path) else None
 
 -- an import at that position, where those at these are public
-abbrev pub import_breaches : List Place → Site → (publics : List ℤ) → ℕ → (path : Text)
+abbrev pub import_breaches : List BodyParts → Site → (publics : List ℤ) → ℕ → (path : Text)
     → List Breach
 import_breaches all site publics n path =
     breaches_at site (unused_import all site.file (is_named publics n) path ∷ [])
 
-abbrev pub unused_in : List Place → Site → Content → List Breach
+abbrev pub unused_in : List BodyParts → Site → Content → List Breach
 unused_in all site (of_message m) = []
 unused_in all site (of_file f) =
     by_position (import_breaches all site f.public_dependency) 0 f.dependency
 
--- each import of the place that nothing needs
-abbrev pub unused_imports : List Place → Place → List Breach
+-- each import of the body that nothing needs
+abbrev pub unused_imports : List BodyParts → BodyParts → List Breach
 unused_imports all p =
     unused_in all (record { file = p.file; construct = p.scope }) p.content

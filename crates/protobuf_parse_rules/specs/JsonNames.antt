@@ -3,7 +3,7 @@
 use Rattle.std.specs.Prelude.{pos, Bool, if◌then◌else◌, List, [], map, None, Some}
 use Rattle.protobuf_parse_model.specs.Descriptors.{Text, FieldDescriptor}
 use Rattle.protobuf_parse_wire.specs.Declarations.{name_within}
-use Rattle.protobuf_parse_rules.specs.Places.{Place, fields_of}
+use Rattle.protobuf_parse_rules.specs.Bodies.{BodyParts, fields_of}
 use Rattle.protobuf_parse_rules.specs.Claims.{Claim, Rules, conflicts}
 use Rattle.protobuf_parse_rules.specs.Rules.{Breach}
 use Rattle.protobuf_parse_rules.specs.declared.rule.Rule.TheVariants as rule
@@ -23,6 +23,6 @@ json_rule proto3 c other = Some (record {
   by = Some other.name;
 })
 
-abbrev pub json_names_in_use : Place → List Breach
+abbrev pub json_names_in_use : BodyParts → List Breach
 json_names_in_use p =
     conflicts (json_rule p.proto3) [] (map (json_claim p.file p.scope) (fields_of p.content))

@@ -11,11 +11,11 @@ use Rattle.protobuf_parse_base.specs.Characters as char
 use Rattle.protobuf_parse_model.specs.Descriptors.{Text, EnumDescriptor, EnumValueDescriptor}
 use Rattle.protobuf_parse_model.specs.Descriptors.{FieldDescriptor, MethodDescriptor}
 use Rattle.protobuf_parse_model.specs.Descriptors.{OneofDescriptor, ServiceDescriptor}
-use Rattle.protobuf_parse_rules.specs.Alike.{plain}
+use Rattle.protobuf_parse_rules.specs.Alike.{squeezed}
 use Rattle.protobuf_parse_rules.specs.Claims.{Claim, Thing}
 use Rattle.protobuf_parse_rules.specs.Names.{Named, package_named}
-use Rattle.protobuf_parse_rules.specs.Places.{Content, Place, enums_of, extensions_of, of_file}
-use Rattle.protobuf_parse_rules.specs.Places.{of_message}
+use Rattle.protobuf_parse_rules.specs.Bodies.{Content, BodyParts, enums_of, extensions_of, of_file}
+use Rattle.protobuf_parse_rules.specs.Bodies.{of_message}
 use Rattle.protobuf_parse_rules.specs.declared.kind.NamedKind.{NamedKind}
 use Rattle.protobuf_parse_rules.specs.declared.kind.NamedKind.TheVariants as kind
 
@@ -50,14 +50,14 @@ abbrev pub text_key : Text → ℕ
 text_key text = fold mixed no_text text
 
 -- the same of a text in lower case and without underscores
-abbrev pub plain_mixed : ℕ → ℕ → ℕ
-plain_mixed key b = if b == char.underscore then key else mixed key (to_ascii_lowercase b)
+abbrev pub squeezed_mixed : ℕ → ℕ → ℕ
+squeezed_mixed key b = if b == char.underscore then key else mixed key (to_ascii_lowercase b)
 
 -- the keys of the name of an enum's value in lower case and without underscores: by itself, and
 -- behind the text that has the first key
 abbrev pub spelling_keys : ℕ → EnumValueDescriptor → List ℕ
-spelling_keys front v = text_key (encode_utf8_all (plain v.name))
-    ∷ fold mixed front (encode_utf8_all (plain v.name)) ∷ []
+spelling_keys front v = text_key (encode_utf8_all (squeezed v.name))
+    ∷ fold mixed front (encode_utf8_all (squeezed v.name)) ∷ []
 
 -- ---- full names
 
@@ -78,7 +78,7 @@ abbrev pub packages_in : (file : Text) → Content → List Named
 packages_in file (of_message m) = []
 packages_in file (of_file f) = package_named file f.«package»
 
-abbrev pub packages_at : Place → List Named
+abbrev pub packages_at : BodyParts → List Named
 packages_at p = packages_in p.file p.content
 
 -- ---- full names of what are no packages, by the key of the scope and its dot
@@ -114,6 +114,6 @@ abbrev pub both_keys : ℕ → Content → List ℕ
 both_keys k content = flat_map (enum_keys k) (enums_of content)
     ++ field_keys k (extensions_of content)
 
-abbrev pub other_keys : Place → List ℕ
+abbrev pub other_keys : BodyParts → List ℕ
 other_keys p = own_keys (text_key p.scope) (inside p.scope) p.content
     ++ both_keys (inside p.scope) p.content

@@ -9,7 +9,7 @@ use Rattle.std.specs.BTreeMap.{BTreeMap, get}
 use Rattle.protobuf_parse_model.specs.Descriptors.{Text, enum_view}
 use Rattle.protobuf_parse_rules.specs.Keys.{text_key}
 use Rattle.protobuf_parse_rules.specs.Lookups.{NamedEnum, NamedMessage, enums_at, message_at}
-use Rattle.protobuf_parse_rules.specs.Places.{Place, content_view}
+use Rattle.protobuf_parse_rules.specs.Bodies.{BodyParts, content_view}
 use Rattle.protobuf_parse_rules.specs.declared.known.KnownEnum.{KnownEnum}
 use Rattle.protobuf_parse_rules.specs.declared.known.KnownMessage.{KnownMessage}
 use Rattle.protobuf_parse_rules.specs.declared.tables.OwnedEnum.{OwnedEnum}
@@ -57,7 +57,7 @@ message_name m = m.name
 abbrev pub enum_name : NamedEnum → Text
 enum_name e = e.name
 
--- They tell of what these places declare.
-pub record KnowsTypes (t : Types) (all : List Place) : Type 0 where
+-- They tell of what these bodies declare.
+pub record KnowsTypes (t : Types) (all : List BodyParts) : Type 0 where
   pub messages : Finds known_message message_name t.messages (flat_map message_at all)
   pub enums : Finds known_enum enum_name t.enums (flat_map enums_at all)

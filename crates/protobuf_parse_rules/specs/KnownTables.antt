@@ -3,10 +3,10 @@
 use Rattle.std.specs.Prelude.{List}
 use Rattle.protobuf_parse_rules.specs.Known.{KnowsTypes}
 use Rattle.protobuf_parse_rules.specs.KnownUses.{KnowsUses}
-use Rattle.protobuf_parse_rules.specs.Places.{Place}
+use Rattle.protobuf_parse_rules.specs.Bodies.{BodyParts}
 use Rattle.protobuf_parse_rules.specs.declared.tables.Tables.{Tables}
 
--- The tables tell of these places.
-pub record Knows (t : Tables) (all : List Place) : Type 0 where
+-- The tables tell of these bodies.
+pub record Knows (t : Tables) (all : List BodyParts) : Type 0 where
   pub types : KnowsTypes t.types all
   pub uses : KnowsUses t.uses all

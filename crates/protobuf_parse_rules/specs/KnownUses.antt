@@ -11,7 +11,7 @@ use Rattle.protobuf_parse_rules.specs.Imports.{extending_path, file_names, names
 use Rattle.protobuf_parse_rules.specs.Imports.{setting_path}
 use Rattle.protobuf_parse_rules.specs.Known.{Finds}
 use Rattle.protobuf_parse_rules.specs.KnownFiles.{known_file, path_named}
-use Rattle.protobuf_parse_rules.specs.Places.{Place}
+use Rattle.protobuf_parse_rules.specs.Bodies.{BodyParts}
 use Rattle.protobuf_parse_rules.specs.Runtimes.{file_at}
 use Rattle.protobuf_parse_rules.specs.Sets.{AreTexts}
 use Rattle.protobuf_parse_rules.specs.declared.uses.Uses.{Uses}
@@ -30,12 +30,13 @@ Adds old new test =
     (k : Link) → contains link_cmp new k ≡ (contains link_cmp old k || test k)
 
 -- It has in addition the files of these types, which something with that path names.
-abbrev pub AddsNames : List Place → (old new : BTreeSet Link) → (file : Text) → List Text → Type 0
+abbrev pub AddsNames : List BodyParts → (old new : BTreeSet Link) → (file : Text) → List Text
+    → Type 0
 AddsNames all old new file names =
     Adds old new (λ (k : Link). names_there all file names k.0.now k.1.now)
 
--- It tells of the files of these places.
-pub record KnowsUses (u : Uses) (all : List Place) : Type 0 where
+-- It tells of the files of these bodies.
+pub record KnowsUses (u : Uses) (all : List BodyParts) : Type 0 where
   pub files : Finds known_file path_named u.files (flat_map file_at all)
   pub links : (k : Link) → contains link_cmp u.links k ≡ file_names all k.0.now k.1.now
   pub setting : AreTexts u.setting.sorted.items (flat_map setting_path all)

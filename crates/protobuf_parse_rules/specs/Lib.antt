@@ -1,6 +1,6 @@
 pub mod Rules
 pub mod Codes
-pub mod Places
+pub mod Bodies
 pub mod Claims
 pub mod Numbers
 pub mod Positions

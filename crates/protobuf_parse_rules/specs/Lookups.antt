@@ -2,7 +2,7 @@
 use Rattle.std.specs.Prelude.{Bool, List, [], ◌∷◌, map, flat_map, find, Option, bytes_eq}
 use Rattle.protobuf_parse_model.specs.Descriptors.{Text, EnumDescriptor}
 use Rattle.protobuf_parse_wire.specs.Declarations.{name_within}
-use Rattle.protobuf_parse_rules.specs.Places.{Content, Place, enums_of, of_file, of_message}
+use Rattle.protobuf_parse_rules.specs.Bodies.{Content, BodyParts, enums_of, of_file, of_message}
 
 -- a message, by its full name, and the path of its file
 pub record NamedMessage : Type 0 where
@@ -15,10 +15,10 @@ message_of file name (of_message m) =
     record { file = file; name = name; what = of_message m } ∷ []
 message_of file name (of_file f) = []
 
-abbrev pub message_at : Place → List NamedMessage
+abbrev pub message_at : BodyParts → List NamedMessage
 message_at p = message_of p.file p.scope p.content
 
-abbrev pub message_named : List Place → Text → Option NamedMessage
+abbrev pub message_named : List BodyParts → Text → Option NamedMessage
 message_named all name =
     find (λ (m : NamedMessage). bytes_eq m.name name) (flat_map message_at all)
 
@@ -33,8 +33,8 @@ abbrev pub enum_of : (file scope : Text) → (proto3 : Bool) → EnumDescriptor 
 enum_of file scope proto3 e =
     record { file = file; name = name_within scope e.name; proto3 = proto3; what = e }
 
-abbrev pub enums_at : Place → List NamedEnum
+abbrev pub enums_at : BodyParts → List NamedEnum
 enums_at p = map (enum_of p.file p.scope p.proto3) (enums_of p.content)
 
-abbrev pub enum_named : List Place → Text → Option NamedEnum
+abbrev pub enum_named : List BodyParts → Text → Option NamedEnum
 enum_named all name = find (λ (e : NamedEnum). bytes_eq e.name name) (flat_map enums_at all)

@@ -7,7 +7,7 @@ use Rattle.protobuf_parse_model.specs.declared.descriptor.FieldType.{FieldType}
 use Rattle.protobuf_parse_model.specs.declared.descriptor.FieldType.TheVariants as kind
 use Rattle.protobuf_parse_model.specs.Descriptors.{FieldDescriptor}
 use Rattle.protobuf_parse_model.specs.Options.{MessageOptionValues}
-use Rattle.protobuf_parse_rules.specs.Places.{Content, of_message, of_file}
+use Rattle.protobuf_parse_rules.specs.Bodies.{Content, of_message, of_file}
 use Rattle.protobuf_parse_rules.specs.Rules.{Broken, broken_if}
 use Rattle.protobuf_parse_rules.specs.declared.rule.Rule.TheVariants as rule
 

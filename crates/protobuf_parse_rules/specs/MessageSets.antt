@@ -2,7 +2,7 @@
 -- `message_set_wire_format` in google/protobuf/descriptor.proto.
 use Rattle.std.specs.Prelude.{Bool, false, Option, option_and_then, unwrap_or}
 use Rattle.protobuf_parse_model.specs.Options.{MessageOptionValues}
-use Rattle.protobuf_parse_rules.specs.Places.{Content, of_message, of_file}
+use Rattle.protobuf_parse_rules.specs.Bodies.{Content, of_message, of_file}
 use Rattle.protobuf_parse_rules.specs.Rules.{Broken, broken_if}
 use Rattle.protobuf_parse_rules.specs.declared.rule.Rule.TheVariants as rule
 

@@ -10,8 +10,8 @@ use Rattle.protobuf_parse_model.specs.Descriptors.{FieldDescriptor, MethodDescri
 use Rattle.protobuf_parse_model.specs.Descriptors.{OneofDescriptor, ServiceDescriptor}
 use Rattle.protobuf_parse_wire.specs.Declarations.{name_within}
 use Rattle.protobuf_parse_rules.specs.Claims.{Claim, Rules, conflicts}
-use Rattle.protobuf_parse_rules.specs.Places.{Content, Place, enums_of, extensions_of, of_file}
-use Rattle.protobuf_parse_rules.specs.Places.{of_message}
+use Rattle.protobuf_parse_rules.specs.Bodies.{Content, BodyParts, enums_of, extensions_of, of_file}
+use Rattle.protobuf_parse_rules.specs.Bodies.{of_message}
 use Rattle.protobuf_parse_rules.specs.Rules.{Breach, Broken, broken_by}
 use Rattle.protobuf_parse_rules.specs.declared.kind.NamedKind.{NamedKind}
 use Rattle.protobuf_parse_rules.specs.declared.kind.NamedKind.TheVariants as kind
@@ -77,7 +77,7 @@ both_named file scope content =
     flat_map (enum_named file scope) (enums_of content)
     ++ fields_named file scope kind.Extension (extensions_of content)
 
-abbrev pub names_at : Place → List Named
+abbrev pub names_at : BodyParts → List Named
 names_at p = own_named p.file p.scope p.content ++ both_named p.file p.scope p.content
 
 abbrev pub name_claim : Named → Claim
@@ -97,5 +97,5 @@ name_rule c other = option_and_then (λ (k : NamedKind).
     option_and_then (name_taken other.file k) other.kind) c.who.kind
 
 -- each thing that has the full name of one before it
-abbrev pub names_in_use : List Place → List Breach
+abbrev pub names_in_use : List BodyParts → List Breach
 names_in_use all = conflicts name_rule [] (map name_claim (flat_map names_at all))

@@ -4,7 +4,7 @@
 use Rattle.std.specs.Prelude.{List, [], ◌++◌, map, flat_map, option_to_list, None, Some}
 use Rattle.protobuf_parse_model.specs.Descriptors.{Text, FieldDescriptor}
 use Rattle.protobuf_parse_wire.specs.Declarations.{name_within}
-use Rattle.protobuf_parse_rules.specs.Places.{Place, fields_of, extensions_of}
+use Rattle.protobuf_parse_rules.specs.Bodies.{BodyParts, fields_of, extensions_of}
 use Rattle.protobuf_parse_rules.specs.Claims.{Claim, Rules}
 use Rattle.protobuf_parse_rules.specs.declared.rule.Rule.TheVariants as rule
 
@@ -25,7 +25,7 @@ extension_claim file scope e =
 abbrev pub extension_claims : (file scope : Text) → List FieldDescriptor → List Claim
 extension_claims file scope extensions = flat_map (extension_claim file scope) extensions
 
-abbrev pub claims : Place → List Claim
+abbrev pub claims : BodyParts → List Claim
 claims p = field_claims p.file p.scope (fields_of p.content)
     ++ extension_claims p.file p.scope (extensions_of p.content)
 

@@ -4,7 +4,7 @@
 use Rattle.std.specs.Prelude.{ℕ, ℤ, Bool, not, List, [], ◌∷◌, Option, flat_map, option_to_list}
 use Rattle.protobuf_parse_model.specs.Descriptors.{Text, FieldDescriptor, OneofDescriptor}
 use Rattle.protobuf_parse_wire.specs.Declarations.{name_within}
-use Rattle.protobuf_parse_rules.specs.Places.{Content, Place, of_file, of_message}
+use Rattle.protobuf_parse_rules.specs.Bodies.{Content, BodyParts, of_file, of_message}
 use Rattle.protobuf_parse_rules.specs.Positions.{by_position, is_named}
 use Rattle.protobuf_parse_rules.specs.Rules.{Breach, Broken, breaches_at, broken_if}
 use Rattle.protobuf_parse_rules.specs.declared.rule.Rule.TheVariants as rule
@@ -28,6 +28,6 @@ oneofs_in file scope (of_message m) =
     by_position (oneof_breaches file scope (oneofs_held m.field)) 0 m.oneof_decl
 oneofs_in file scope (of_file f) = []
 
--- each oneof of the place in which no field stands
-abbrev pub empty_oneofs : Place → List Breach
+-- each oneof of the body in which no field stands
+abbrev pub empty_oneofs : BodyParts → List Breach
 empty_oneofs p = oneofs_in p.file p.scope p.content

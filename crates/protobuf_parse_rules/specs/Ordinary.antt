@@ -12,8 +12,8 @@ use Rattle.protobuf_parse_rules.specs.FieldOptions.{js_type_option, lazy_option,
 use Rattle.protobuf_parse_rules.specs.FieldOptions.{packed_option}
 use Rattle.protobuf_parse_rules.specs.Maps.{is_entry, is_no_key}
 use Rattle.protobuf_parse_rules.specs.MessageSets.{is_message_set}
-use Rattle.protobuf_parse_rules.specs.Places.{Content, extension_ranges, reserved_names}
-use Rattle.protobuf_parse_rules.specs.Places.{reserved_ranges}
+use Rattle.protobuf_parse_rules.specs.Bodies.{Content, extension_ranges, reserved_names}
+use Rattle.protobuf_parse_rules.specs.Bodies.{reserved_ranges}
 use Rattle.protobuf_parse_rules.specs.Proto3.{is_required}
 use Rattle.protobuf_parse_rules.specs.Ranges.{in_ranges, is_among}
 

@@ -10,7 +10,7 @@ use Rattle.protobuf_parse_model.specs.declared.descriptor.FieldType.{FieldType}
 use Rattle.protobuf_parse_model.specs.declared.descriptor.FieldType.TheVariants as kind
 use Rattle.protobuf_parse_model.specs.Descriptors.{Text}
 use Rattle.protobuf_parse_rules.specs.MessageSets.{is_message_set}
-use Rattle.protobuf_parse_rules.specs.Places.{Content, of_message, of_file}
+use Rattle.protobuf_parse_rules.specs.Bodies.{Content, of_message, of_file}
 use Rattle.protobuf_parse_rules.specs.Rules.{Broken, broken_by, broken_if}
 use Rattle.protobuf_parse_rules.specs.declared.rule.Rule.TheVariants as rule
 

@@ -6,8 +6,8 @@ use Rattle.std.specs.Prelude.{ℤ, pos, Bool, not, ◌&&◌, Option, int_lt, nat
 use Rattle.std.specs.Prelude.{◌∷◌, ◌++◌}
 use Rattle.std.specs.List.{count_by, list_any}
 use Rattle.protobuf_parse_model.specs.Descriptors.{Text, Range}
-use Rattle.protobuf_parse_rules.specs.Places.{Content, extension_ranges, reserved_names}
-use Rattle.protobuf_parse_rules.specs.Places.{reserved_ranges}
+use Rattle.protobuf_parse_rules.specs.Bodies.{Content, extension_ranges, reserved_names}
+use Rattle.protobuf_parse_rules.specs.Bodies.{reserved_ranges}
 use Rattle.protobuf_parse_rules.specs.Rules.{Breach, Broken, Site, breaches_at, broken_if}
 use Rattle.protobuf_parse_rules.specs.declared.rule.Rule.TheVariants as rule
 

@@ -14,7 +14,8 @@ use Rattle.protobuf_parse_model.specs.declared.descriptor.options.OptimizeMode.{
 use Rattle.protobuf_parse_model.specs.declared.descriptor.options.OptimizeMode.TheVariants as mode
 use Rattle.protobuf_parse_wire.specs.Declarations.{name_within}
 use Rattle.protobuf_parse_rules.specs.Names.{Named, names_at}
-use Rattle.protobuf_parse_rules.specs.Places.{Content, Place, extensions_of, of_file, of_message}
+use Rattle.protobuf_parse_rules.specs.Bodies.{Content, BodyParts, extensions_of, of_file}
+use Rattle.protobuf_parse_rules.specs.Bodies.{of_message}
 use Rattle.protobuf_parse_rules.specs.Rules.{Breach, Broken, Site, breaches_at, broken, broken_by}
 use Rattle.protobuf_parse_rules.specs.declared.rule.Rule.TheVariants as rule
 
@@ -29,14 +30,14 @@ abbrev pub file_in : (path : Text) → Content → List NamedFile
 file_in path (of_message m) = []
 file_in path (of_file f) = record { path = path; what = f } ∷ []
 
-abbrev pub file_at : Place → List NamedFile
+abbrev pub file_at : BodyParts → List NamedFile
 file_at p = file_in p.file p.content
 
-abbrev pub file_named : List Place → Text → Option NamedFile
+abbrev pub file_named : List BodyParts → Text → Option NamedFile
 file_named all path = find (λ (f : NamedFile). bytes_eq f.path path) (flat_map file_at all)
 
 -- the path of the file of the first that has the full name
-abbrev pub declaring_file : List Place → Text → Option Text
+abbrev pub declaring_file : List BodyParts → Text → Option Text
 declaring_file all name = option_map (λ (n : Named). n.file)
     (find (λ (n : Named). bytes_eq n.name name) (flat_map names_at all))
 
@@ -51,34 +52,34 @@ is_lite f = option_map_or is_lite_mode
     (option_and_then (λ (o : FileOptionValues). o.optimize_for) f.options) false
 
 -- a file with that path, and for the lite runtime or not
-abbrev pub is_lite_path : List Place → Text → Bool
+abbrev pub is_lite_path : List BodyParts → Text → Bool
 is_lite_path all path = option_map_or (λ (f : NamedFile). is_lite f.what)
     (file_named all path) false
 
 -- a file that is not for the lite runtime imports that path
-abbrev pub of_lite_path : List Place → (path : Text) → Option Broken
+abbrev pub of_lite_path : List BodyParts → (path : Text) → Option Broken
 of_lite_path all path =
     if is_lite_path all path then Some (broken_by rule.LiteImport path) else None
 
-abbrev pub lite_import : List Place → Site → (path : Text) → List Breach
+abbrev pub lite_import : List BodyParts → Site → (path : Text) → List Breach
 lite_import all site path = breaches_at site (of_lite_path all path ∷ [])
 
-abbrev pub lite_imports : List Place → Site → FileDescriptor → List Breach
+abbrev pub lite_imports : List BodyParts → Site → FileDescriptor → List Breach
 lite_imports all site f =
     if is_lite f then [] else flat_map (lite_import all site) f.dependency
 
 -- an extension, in a file for the lite runtime, of what has that full name
-abbrev pub lite_extendee : List Place → Text → Option Broken
+abbrev pub lite_extendee : List BodyParts → Text → Option Broken
 lite_extendee all name = option_and_then (λ (path : Text).
     if is_lite_path all path then None else Some (broken_by rule.LiteExtension name))
     (declaring_file all name)
 
-abbrev pub lite_extension : List Place → (file scope : Text) → FieldDescriptor → List Breach
+abbrev pub lite_extension : List BodyParts → (file scope : Text) → FieldDescriptor → List Breach
 lite_extension all file scope e =
     breaches_at (record { file = file; construct = name_within scope e.name })
     (option_and_then (lite_extendee all) e.extendee ∷ [])
 
-abbrev pub lite_extensions : List Place → Place → List Breach
+abbrev pub lite_extensions : List BodyParts → BodyParts → List Breach
 lite_extensions all p = if is_lite_path all p.file
     then flat_map (lite_extension all p.file p.scope) (extensions_of p.content) else []
 
@@ -98,10 +99,10 @@ lite_services file scope f = if is_lite f && has_generic_services f
     then flat_map (lite_service file scope) f.service else []
 
 -- a file's imports and services
-abbrev pub lite_file : List Place → (file scope : Text) → Content → List Breach
+abbrev pub lite_file : List BodyParts → (file scope : Text) → Content → List Breach
 lite_file all file scope (of_message m) = []
 lite_file all file scope (of_file f) =
     lite_imports all (record { file = file; construct = scope }) f ++ lite_services file scope f
 
-abbrev pub runtime_breaches : List Place → Place → List Breach
+abbrev pub runtime_breaches : List BodyParts → BodyParts → List Breach
 runtime_breaches all p = lite_extensions all p ++ lite_file all p.file p.scope p.content

@@ -2,9 +2,10 @@
 use Rattle.std.specs.Prelude.{Bool, true, false, Option, List, [], ◌∷◌, ◌++◌, flat_map}
 use Rattle.protobuf_parse_model.specs.Descriptors.{Text, FileDescriptor, FieldDescriptor}
 use Rattle.protobuf_parse_wire.specs.Declarations.{name_within}
-use Rattle.protobuf_parse_rules.specs.Places.{Content, Place, places, fields_of, extensions_of}
-use Rattle.protobuf_parse_rules.specs.Places.{enums_of, extension_ranges, imports_of}
-use Rattle.protobuf_parse_rules.specs.Places.{reserved_names, reserved_ranges}
+use Rattle.protobuf_parse_rules.specs.Bodies.{Content, BodyParts, bodies_in, fields_of}
+use Rattle.protobuf_parse_rules.specs.Bodies.{extensions_of}
+use Rattle.protobuf_parse_rules.specs.Bodies.{enums_of, extension_ranges, imports_of}
+use Rattle.protobuf_parse_rules.specs.Bodies.{reserved_names, reserved_ranges}
 use Rattle.protobuf_parse_rules.specs.Alike.{fields_alike}
 use Rattle.protobuf_parse_rules.specs.Repeats.{repeats}
 use Rattle.protobuf_parse_rules.specs.declared.rule.Rule.TheVariants as rule
@@ -31,14 +32,14 @@ use Rattle.protobuf_parse_rules.specs.Ranges.{ranges_of, reserved_number, reserv
 use Rattle.protobuf_parse_rules.specs.Rules.{Breach, Broken, Site, breaches_at}
 use Rattle.protobuf_parse_rules.specs.Runtimes.{runtime_breaches}
 
-abbrev pub site_in : Place → Text → Site
+abbrev pub site_in : BodyParts → Text → Site
 site_in p name = record { file = p.file; construct = name_within p.scope name }
 
-abbrev pub site_of_place : Place → Site
-site_of_place p = record { file = p.file; construct = p.scope }
+abbrev pub site_of_body : BodyParts → Site
+site_of_body p = record { file = p.file; construct = p.scope }
 
 -- what is wrong with a field or an extension by itself
-abbrev pub common_rules : List Place → (proto3 : Bool) → FieldDescriptor → List (Option Broken)
+abbrev pub common_rules : List BodyParts → (proto3 : Bool) → FieldDescriptor → List (Option Broken)
 common_rules all proto3 f =
     required_field proto3 f.label
     ∷ group_field proto3 f.type_
@@ -52,7 +53,7 @@ common_rules all proto3 f =
     ∷ []
 
 -- what more is wrong with a field of a message
-abbrev pub field_rules : List Place → Content → FieldDescriptor → List (Option Broken)
+abbrev pub field_rules : List BodyParts → Content → FieldDescriptor → List (Option Broken)
 field_rules all content f =
     limit false f.number
     ∷ reserved_number f.number content
@@ -64,7 +65,8 @@ field_rules all content f =
     ∷ []
 
 -- what more is wrong with an extension
-abbrev pub extension_rules : List Place → (proto3 : Bool) → FieldDescriptor → List (Option Broken)
+abbrev pub extension_rules : List BodyParts → (proto3 : Bool) → FieldDescriptor
+    → List (Option Broken)
 extension_rules all proto3 e =
     limit true e.number
     ∷ required_extension e.label
@@ -73,11 +75,11 @@ extension_rules all proto3 e =
     ∷ of_extendee all (of_message_set e) e
     ∷ []
 
-abbrev pub field_breaches : List Place → Place → FieldDescriptor → List Breach
+abbrev pub field_breaches : List BodyParts → BodyParts → FieldDescriptor → List Breach
 field_breaches all p f = breaches_at (site_in p f.name) (field_rules all p.content f)
     ++ breaches_at (site_in p f.name) (common_rules all p.proto3 f)
 
-abbrev pub extension_breaches : List Place → Place → FieldDescriptor → List Breach
+abbrev pub extension_breaches : List BodyParts → BodyParts → FieldDescriptor → List Breach
 extension_breaches all p e = breaches_at (site_in p e.name) (extension_rules all p.proto3 e)
     ++ breaches_at (site_in p e.name) (common_rules all p.proto3 e)
 
@@ -85,53 +87,55 @@ extension_breaches all p e = breaches_at (site_in p e.name) (extension_rules all
 abbrev pub own_rules : (proto3 : Bool) → Content → List (Option Broken)
 own_rules proto3 content = ranges_kept proto3 content ∷ set_in_proto3 proto3 content ∷ []
 
-abbrev pub range_breaches : Place → List Breach
+abbrev pub range_breaches : BodyParts → List Breach
 range_breaches p =
-    flat_map (extension_range (site_of_place p) (is_message_set p.content) (ranges_of p.content))
+    flat_map (extension_range (site_of_body p) (is_message_set p.content) (ranges_of p.content))
     (extension_ranges p.content)
-    ++ flat_map (reserved_range (site_of_place p) (ranges_of p.content)) (reserved_ranges p.content)
+    ++ flat_map (reserved_range (site_of_body p) (ranges_of p.content)) (reserved_ranges p.content)
 
 -- what is wrong with a file's imports
-abbrev pub imports_breaches : List Place → Place → List Breach
+abbrev pub imports_breaches : List BodyParts → BodyParts → List Breach
 imports_breaches all p =
-    repeats rule.ImportedTwice (site_of_place p) (imports_of p.content) ++ unused_imports all p
+    repeats rule.ImportedTwice (site_of_body p) (imports_of p.content) ++ unused_imports all p
 
-abbrev pub own_breaches : List Place → Place → List Breach
+abbrev pub own_breaches : List BodyParts → BodyParts → List Breach
 own_breaches all p =
-    breaches_at (site_of_place p) (own_rules p.proto3 p.content)
+    breaches_at (site_of_body p) (own_rules p.proto3 p.content)
     ++ (empty_oneofs p
     ++ (imports_breaches all p
-    ++ (repeats rule.NameReservedTwice (site_of_place p) (reserved_names p.content)
+    ++ (repeats rule.NameReservedTwice (site_of_body p) (reserved_names p.content)
     ++ range_breaches p)))
 
-abbrev pub breaches_in_rest : List Place → Place → List Breach
+abbrev pub breaches_in_rest : List BodyParts → BodyParts → List Breach
 breaches_in_rest all p = own_breaches all p ++ flat_map (enum_breaches p) (enums_of p.content)
 
--- those of a place by itself
-abbrev pub breaches_inside : (all : List Place) → Place → List Breach
+-- those of a body by itself
+abbrev pub breaches_inside : (all : List BodyParts) → BodyParts → List Breach
 breaches_inside all p =
     (json_names_in_use p ++ fields_alike p)
     ++ (flat_map (field_breaches all p) (fields_of p.content)
     ++ (flat_map (extension_breaches all p) (extensions_of p.content)
     ++ breaches_in_rest all p))
 
--- those of a place behind places with these claims: first the numbers that these claim
-abbrev pub breaches_of_place : (all : List Place) → (before : List Claim) → Place → List Breach
-breaches_of_place all before p =
+-- those of a body behind bodies with these claims: first the numbers that these claim
+abbrev pub breaches_of_body : (all : List BodyParts) → (before : List Claim) → BodyParts
+    → List Breach
+breaches_of_body all before p =
     conflicts number_rule before (claims p) ++ breaches_inside all p
 
--- those of places, one after the other
-abbrev pub breaches_after : (all : List Place) → (before : List Claim) → List Place → List Breach
+-- those of bodies, one after the other
+abbrev pub breaches_after : (all : List BodyParts) → (before : List Claim) → List BodyParts
+    → List Breach
 breaches_after all before [] = []
 breaches_after all before (p ∷ ps) =
-    breaches_of_place all before p ++ breaches_after all (before ++ claims p) ps
+    breaches_of_body all before p ++ breaches_after all (before ++ claims p) ps
 
--- those of places, of which each knows of all others; then names that are in use, and then what is
+-- those of bodies, of which each knows of all others; then names that are in use, and then what is
 -- wrong with runtimes
-abbrev pub breaches_among : List Place → List Breach
+abbrev pub breaches_among : List BodyParts → List Breach
 breaches_among all =
     breaches_after all [] all ++ (names_in_use all ++ flat_map (runtime_breaches all) all)
 
 -- those of files: file by file, then the names, and then the runtimes
 abbrev pub breaches : List FileDescriptor → List Breach
-breaches files = breaches_among (flat_map places files)
+breaches files = breaches_among (flat_map bodies_in files)

@@ -13,12 +13,12 @@ ghost use Rattle.protobuf_parse_rules.specs.ClaimsKept.{Claims};
 ghost use Rattle.protobuf_parse_rules.specs.Held.{rules_of};
 ghost use Rattle.protobuf_parse_rules.specs.Keys.{spelling_keys, text_key};
 ghost use Rattle.protobuf_parse_rules.specs.KnownNames.{spelled_view};
-ghost use Rattle.protobuf_parse_rules.specs.Places.{body_view, content_view, fields_of};
+ghost use Rattle.protobuf_parse_rules.specs.Bodies.{body_view, content_view, fields_of};
 ghost use Rattle.protobuf_parse_rules.specs.Rules.{breaches_told};
 
+use crate::bodies::Body;
 use crate::claims::{Held, Holders, Thing, check_claim};
-use crate::keys::{NO_TEXT, plain_key};
-use crate::places::Body;
+use crate::keys::{NO_TEXT, squeezed_key};
 use crate::violation::Violation;
 use protobuf_parse_base::text::camel_case;
 use protobuf_parse_model::{
@@ -47,7 +47,7 @@ pub fn check_fields_alike(
     if !body.proto3 {
         return Ok(());
     }
-    let keys = plain_keys(alloc, body.holds.fields())?;
+    let keys = squeezed_keys(alloc, body.holds.fields())?;
     if are_apart(keys) {
         return Ok(());
     }
@@ -55,13 +55,13 @@ pub fn check_fields_alike(
 }
 
 /// The keys of how the names of the fields are compared.
-fn plain_keys(alloc: Global, fields: &[FieldDescriptorProto]) -> Result<Vec<u64>, AllocError>
+fn squeezed_keys(alloc: Global, fields: &[FieldDescriptorProto]) -> Result<Vec<u64>, AllocError>
     ensures { IfOk result (λ keys. keys.items ≡ map (λ (s : spec.Spelled). text_key s.key)
         (map spec.spelled_field (map field_view fields.now))) }
 {
     let mut keys = Vec::with_capacity(alloc, fields.len())?;
     'fields: for field in fields {
-        keys.push(plain_key(NO_TEXT, &field.name))?;
+        keys.push(squeezed_key(NO_TEXT, &field.name))?;
     }
     Ok(keys)
 }
@@ -92,7 +92,7 @@ pub fn check_values_alike(
     ensures { OnOk result (breaches_told told.new ≡ breaches_told told.old
         ++ values_alike (body_view body.now) (enum_view each.now)) }
 {
-    let front = plain_key(NO_TEXT, each.name.as_str());
+    let front = squeezed_key(NO_TEXT, each.name.as_str());
     let keys = value_keys(alloc, front, &each.value)?;
     if are_apart(keys) {
         return Ok(());
@@ -116,8 +116,8 @@ fn value_keys(
     let mut keys = Vec::with_capacity(alloc, values.len().saturating_mul(2))?;
     'values: for value in values {
         let name = value.name.as_str();
-        keys.push(plain_key(NO_TEXT, name))?;
-        keys.push(plain_key(front, name))?;
+        keys.push(squeezed_key(NO_TEXT, name))?;
+        keys.push(squeezed_key(front, name))?;
     }
     Ok(keys)
 }
@@ -132,7 +132,7 @@ fn check_spelled_values(
     ensures { OnOk result (breaches_told told.new ≡ breaches_told told.old
         ++ values_alike (body_view body.now) (enum_view each.now)) }
 {
-    let front = plain(alloc, &each.name)?;
+    let front = squeezed(alloc, &each.name)?;
     let spelled = spelled_values(alloc, &front, &each.value)?;
     check_in_turn(alloc, told, Held::ValueAlike(body.proto3), body, &spelled)
 }
@@ -197,7 +197,7 @@ fn spelled_field<'a>(
 ) -> Result<Spelled<'a>, AllocError>
     ensures { IfOk result (λ s. spelled_view s ≡ spec.spelled_field (field_view field.now)) }
 {
-    let key = plain_text(alloc, &field.name)?;
+    let key = squeezed_text(alloc, &field.name)?;
     Ok(Spelled {
         key,
         name: &field.name,
@@ -244,8 +244,8 @@ fn chars_of(alloc: Global, name: &str) -> Result<Vec<char>, AllocError>
 }
 
 /// The characters of the name in lower case, without underscores.
-fn plain(alloc: Global, name: &str) -> Result<Vec<char>, AllocError>
-    ensures { IfOk result (λ v. v.items ≡ spec.plain name.now) }
+fn squeezed(alloc: Global, name: &str) -> Result<Vec<char>, AllocError>
+    ensures { IfOk result (λ v. v.items ≡ spec.squeezed name.now) }
 {
     name.chars()
         .filter(|c| *c != '_')
@@ -253,8 +253,8 @@ fn plain(alloc: Global, name: &str) -> Result<Vec<char>, AllocError>
         .collect(alloc)
 }
 
-fn plain_text(alloc: Global, name: &str) -> Result<String, AllocError>
-    ensures { IfOk result (λ s. string_bytes s ≡ encode_utf8_all (spec.plain name.now)) }
+fn squeezed_text(alloc: Global, name: &str) -> Result<String, AllocError>
+    ensures { IfOk result (λ s. string_bytes s ≡ encode_utf8_all (spec.squeezed name.now)) }
 {
     name.chars()
         .filter(|c| *c != '_')

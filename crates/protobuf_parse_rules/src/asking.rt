@@ -7,11 +7,11 @@ ghost use Rattle.std.specs.List.{list_any};
 ghost use Rattle.protobuf_parse_model.specs.Descriptors.{field_view};
 ghost use Rattle.protobuf_parse_rules.specs.Asking as spec;
 ghost use Rattle.protobuf_parse_rules.specs.Customs.{are_any};
-ghost use Rattle.protobuf_parse_rules.specs.Places.{body_view, content_view, imports_of};
+ghost use Rattle.protobuf_parse_rules.specs.Bodies.{body_view, content_view, imports_of};
 
+use crate::bodies::{Body, Holds};
 use crate::enum_uses::is_enum;
 use crate::maps::is_entry;
-use crate::places::{Body, Holds};
 use crate::uses::has_extensions;
 use protobuf_parse_model::FieldDescriptorProto;
 

@@ -3,13 +3,13 @@
 ghost use Rattle.std.specs.Prelude.{◌≡◌, IfOk};
 ghost use Rattle.std.proofs.Props.{props};
 ghost use Rattle.protobuf_parse_rules.specs.Covers.{AreEnds};
-ghost use Rattle.protobuf_parse_rules.specs.Places.{body_view, content_view, extension_ranges};
-ghost use Rattle.protobuf_parse_rules.specs.Places.{reserved_names, reserved_ranges};
+ghost use Rattle.protobuf_parse_rules.specs.Bodies.{body_view, content_view, extension_ranges};
+ghost use Rattle.protobuf_parse_rules.specs.Bodies.{reserved_names, reserved_ranges};
 ghost use Rattle.protobuf_parse_rules.specs.Ranges.{in_range, in_ranges};
 ghost use Rattle.protobuf_parse_rules.specs.Sets.{AreTexts};
 
+use crate::bodies::Body;
 use crate::cover::Cover;
-use crate::places::Body;
 use crate::ranges::{kept_cover, reserved_cover};
 use crate::words::{Words, words_of};
 use std::alloc::{AllocError, Global};

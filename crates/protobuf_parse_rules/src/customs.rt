@@ -6,9 +6,9 @@ ghost use Rattle.protobuf_parse_model.specs.Descriptors.{enum_value_view, enum_v
 ghost use Rattle.protobuf_parse_model.specs.Descriptors.{file_view, message_parts, method_view};
 ghost use Rattle.protobuf_parse_model.specs.Descriptors.{oneof_view, service_view};
 ghost use Rattle.protobuf_parse_rules.specs.Customs as spec;
-ghost use Rattle.protobuf_parse_rules.specs.Places.{content_view};
+ghost use Rattle.protobuf_parse_rules.specs.Bodies.{content_view};
 
-use crate::places::Holds;
+use crate::bodies::Holds;
 use protobuf_parse_model::{
     DescriptorProto, EnumDescriptorProto, EnumValueDescriptorProto, FieldDescriptorProto,
     FileDescriptorProto, MethodDescriptorProto, OneofDescriptorProto, ServiceDescriptorProto,

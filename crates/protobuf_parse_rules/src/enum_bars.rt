@@ -14,9 +14,9 @@ ghost use Rattle.protobuf_parse_rules.specs.Rules.{breaches_told, broken_if};
 ghost use Rattle.protobuf_parse_rules.specs.Sets.{AreTexts};
 ghost use Rattle.protobuf_parse_rules.specs.declared.rule.Rule.TheVariants as rule;
 
+use crate::bodies::Body;
 use crate::cover::{Cover, add_closed, no_ends};
 use crate::finding::{Finding, Spot, found_if};
-use crate::places::Body;
 use crate::rule::Rule;
 use crate::tell::tell_each;
 use crate::violation::Violation;

@@ -8,13 +8,13 @@ ghost use Rattle.protobuf_parse_rules.specs.Findings.{finding_view};
 ghost use Rattle.protobuf_parse_rules.specs.Known.{known_enum};
 ghost use Rattle.protobuf_parse_rules.specs.KnownTables.{Knows};
 ghost use Rattle.protobuf_parse_rules.specs.declared.known.KnownEnum.{KnownEnum};
-ghost use Rattle.protobuf_parse_rules.specs.Places.{Place, content_view};
+ghost use Rattle.protobuf_parse_rules.specs.Bodies.{BodyParts, content_view};
 
+use crate::bodies::Holds;
 use crate::enums::not_zero;
 use crate::finding::{Finding, found_by};
 use crate::known::KnownEnum;
 use crate::maps::is_entry;
-use crate::places::Holds;
 use crate::rule::Rule;
 use crate::tables::Tables;
 use protobuf_parse_model::{FieldDescriptorProto, FieldType};
@@ -24,7 +24,7 @@ fn enum_of_field<'t, 'a>(
     tables: &'t Tables<'a>,
     field: &'a FieldDescriptorProto,
 ) -> Option<&'t KnownEnum<'a>>
-    ensures { (all : List Place) → Knows tables.now all →
+    ensures { (all : List BodyParts) → Knows tables.now all →
         option_map (λ (e : Bor KnownEnum). known_enum e.now) result
         ≡ spec.enum_of_field all (field_view field.now) }
 {
@@ -50,7 +50,7 @@ pub fn enum_of_proto2<'a>(
     proto3: bool,
     field: &'a FieldDescriptorProto,
 ) -> Option<Finding<'a>>
-    ensures { (all : List Place) → Knows tables.now all → option_map finding_view result
+    ensures { (all : List BodyParts) → Knows tables.now all → option_map finding_view result
         ≡ spec.of_enum all (spec.enum_of_proto2 proto3) (field_view field.now) }
 {
     if !proto3 {
@@ -78,7 +78,7 @@ pub fn default_value<'a>(
     tables: &Tables<'a>,
     field: &'a FieldDescriptorProto,
 ) -> Option<Finding<'a>>
-    ensures { (all : List Place) → Knows tables.now all → option_map finding_view result
+    ensures { (all : List BodyParts) → Knows tables.now all → option_map finding_view result
         ≡ spec.of_enum all (spec.default_value (field_view field.now)) (field_view field.now) }
 {
     if field.default_value.is_none() {
@@ -118,7 +118,7 @@ pub fn map_value<'a>(
     holds: Holds<'_>,
     field: &'a FieldDescriptorProto,
 ) -> Option<Finding<'a>>
-    ensures { (all : List Place) → Knows tables.now all → option_map finding_view result
+    ensures { (all : List BodyParts) → Knows tables.now all → option_map finding_view result
         ≡ spec.of_enum all (spec.map_value (content_view holds.entry) (field_view field.now))
         (field_view field.now) }
 {

@@ -11,7 +11,7 @@ ghost use Rattle.protobuf_parse_rules.specs.Enums.{not_zero};
 ghost use Rattle.protobuf_parse_rules.specs.Enums.{value_claim, value_rule, values_in_use};
 ghost use Rattle.protobuf_parse_rules.specs.Findings.{finding_view, site_of};
 ghost use Rattle.protobuf_parse_rules.specs.Keys.{key_of};
-ghost use Rattle.protobuf_parse_rules.specs.Places.{body_view};
+ghost use Rattle.protobuf_parse_rules.specs.Bodies.{body_view};
 ghost use Rattle.protobuf_parse_wire.specs.Declarations.{name_within};
 ghost use Rattle.protobuf_parse_rules.specs.Enums as spec;
 ghost use Rattle.protobuf_parse_rules.specs.Repeats.{repeats};
@@ -20,11 +20,11 @@ ghost use Rattle.protobuf_parse_rules.specs.declared.rule.Rule.TheVariants as ru
 
 use crate::aliases::aliases_without_need;
 use crate::alike::check_values_alike;
+use crate::bodies::Body;
 use crate::claims::{Held, Holders, Thing, check_claim};
 use crate::enum_bars::{EnumBars, check_ranges, check_reserved, enum_bars_of};
 use crate::finding::{Finding, found, found_if};
 use crate::keys::key_of;
-use crate::places::Body;
 use crate::repeats::check_repeats;
 use crate::rule::Rule;
 use crate::tell::tell_each;

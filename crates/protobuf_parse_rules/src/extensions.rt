@@ -8,7 +8,7 @@ ghost use Rattle.protobuf_parse_rules.specs.Findings.{finding_view};
 ghost use Rattle.protobuf_parse_rules.specs.Known.{known_message};
 ghost use Rattle.protobuf_parse_rules.specs.KnownTables.{Knows};
 ghost use Rattle.protobuf_parse_rules.specs.declared.known.KnownMessage.{KnownMessage};
-ghost use Rattle.protobuf_parse_rules.specs.Places.{Place};
+ghost use Rattle.protobuf_parse_rules.specs.Bodies.{BodyParts};
 
 use crate::field_options::is_message;
 use crate::finding::{Finding, found_by, found_if};
@@ -31,7 +31,7 @@ fn extendee_of<'t, 'a>(
     tables: &'t Tables<'a>,
     extension: &'a FieldDescriptorProto,
 ) -> Option<&'t KnownMessage<'a>>
-    ensures { (all : List Place) → Knows tables.now all →
+    ensures { (all : List BodyParts) → Knows tables.now all →
         option_map (λ (m : Bor KnownMessage). known_message m.now) result
         ≡ spec.extendee_of all (field_view extension.now) }
 {
@@ -46,7 +46,7 @@ pub fn outside_ranges<'a>(
     tables: &Tables<'a>,
     extension: &'a FieldDescriptorProto,
 ) -> Option<Finding<'a>>
-    ensures { (all : List Place) → Knows tables.now all → option_map finding_view result
+    ensures { (all : List BodyParts) → Knows tables.now all → option_map finding_view result
         ≡ spec.of_extendee all (spec.outside_ranges extension.now.number)
         (field_view extension.now) }
 {
@@ -75,7 +75,7 @@ pub fn of_message_set<'a>(
     tables: &Tables<'a>,
     extension: &'a FieldDescriptorProto,
 ) -> Option<Finding<'a>>
-    ensures { (all : List Place) → Knows tables.now all → option_map finding_view result
+    ensures { (all : List BodyParts) → Knows tables.now all → option_map finding_view result
         ≡ spec.of_extendee all (spec.of_message_set (field_view extension.now))
         (field_view extension.now) }
 {

@@ -3,13 +3,14 @@
 ghost use Rattle.std.specs.Prelude.{◌≡◌, ◌++◌, List, map, flat_map, OnOk};
 ghost use Rattle.protobuf_parse_model.specs.Descriptors.{field_view};
 ghost use Rattle.protobuf_parse_rules.specs.KnownTables.{Knows};
-ghost use Rattle.protobuf_parse_rules.specs.Places.{Place, body_view, content_view};
+ghost use Rattle.protobuf_parse_rules.specs.Bodies.{BodyParts, body_view, content_view};
 ghost use Rattle.protobuf_parse_rules.specs.Rules.{breaches_at, breaches_told};
 ghost use Rattle.protobuf_parse_rules.specs.Violations.{common_rules, extension_breaches};
 ghost use Rattle.protobuf_parse_rules.specs.Violations.{extension_rules, field_breaches};
 ghost use Rattle.protobuf_parse_rules.specs.Violations.{field_rules, site_in};
 
 use crate::bars::Bars;
+use crate::bodies::Body;
 use crate::defaults::default_of;
 use crate::enum_uses::{default_value, enum_of_proto2, map_value};
 use crate::extensions::{of_message_set, outside_ranges, required_extension};
@@ -18,7 +19,6 @@ use crate::limits::limit;
 use crate::maps::key_type;
 use crate::message_sets::field_of_set;
 use crate::ordinary::{allows, bars_nothing, has_allowed_number, is_common, is_ordinary};
-use crate::places::Body;
 use crate::proto3::{default_field, extended, group_field, required_field};
 use crate::ranges::{kept_number, reserved_name, reserved_number};
 use crate::tables::Tables;
@@ -35,7 +35,7 @@ pub fn check_fields<'a>(
     bars: &Bars<'a>,
     fields: &'a [FieldDescriptorProto],
 ) -> Result<(), AllocError>
-    ensures { OnOk result ((all : List Place) → Knows tables.now all →
+    ensures { OnOk result ((all : List BodyParts) → Knows tables.now all →
         breaches_told told.new ≡ breaches_told told.old
         ++ flat_map (field_breaches all (body_view bars.now.body.now))
         (map field_view fields.now)) }
@@ -54,7 +54,7 @@ fn check_field<'a>(
     bars: &Bars<'a>,
     field: &'a FieldDescriptorProto,
 ) -> Result<(), AllocError>
-    ensures { OnOk result ((all : List Place) → Knows tables.now all →
+    ensures { OnOk result ((all : List BodyParts) → Knows tables.now all →
         breaches_told told.new ≡ breaches_told told.old
         ++ field_breaches all (body_view bars.now.body.now) (field_view field.now)) }
 {
@@ -70,7 +70,7 @@ fn check_in_message<'a>(
     bars: &Bars<'a>,
     field: &'a FieldDescriptorProto,
 ) -> Result<(), AllocError>
-    ensures { OnOk result ((all : List Place) → Knows tables.now all →
+    ensures { OnOk result ((all : List BodyParts) → Knows tables.now all →
         breaches_told told.new ≡ breaches_told told.old
         ++ breaches_at (site_in (body_view bars.now.body.now) (field_view field.now).name)
         (field_rules all (content_view bars.now.body.now.holds) (field_view field.now))) }
@@ -89,7 +89,7 @@ fn check_allowed<'a>(
     bars: &Bars<'a>,
     field: &'a FieldDescriptorProto,
 ) -> Result<(), AllocError>
-    ensures { OnOk result ((all : List Place) → Knows tables.now all →
+    ensures { OnOk result ((all : List BodyParts) → Knows tables.now all →
         breaches_told told.new ≡ breaches_told told.old
         ++ breaches_at (site_in (body_view bars.now.body.now) (field_view field.now).name)
         (field_rules all (content_view bars.now.body.now.holds) (field_view field.now))) }
@@ -110,7 +110,7 @@ fn check_barred<'a>(
     bars: &Bars<'a>,
     field: &'a FieldDescriptorProto,
 ) -> Result<(), AllocError>
-    ensures { OnOk result ((all : List Place) → Knows tables.now all →
+    ensures { OnOk result ((all : List BodyParts) → Knows tables.now all →
         breaches_told told.new ≡ breaches_told told.old
         ++ breaches_at (site_in (body_view bars.now.body.now) (field_view field.now).name)
         (field_rules all (content_view bars.now.body.now.holds) (field_view field.now))) }
@@ -137,7 +137,7 @@ pub fn check_extensions<'a>(
     body: &'a Body<'a>,
     extensions: &'a [FieldDescriptorProto],
 ) -> Result<(), AllocError>
-    ensures { OnOk result ((all : List Place) → Knows tables.now all →
+    ensures { OnOk result ((all : List BodyParts) → Knows tables.now all →
         breaches_told told.new ≡ breaches_told told.old
         ++ flat_map (extension_breaches all (body_view body.now))
         (map field_view extensions.now)) }
@@ -156,7 +156,7 @@ fn check_extension<'a>(
     body: &'a Body<'a>,
     extension: &'a FieldDescriptorProto,
 ) -> Result<(), AllocError>
-    ensures { OnOk result ((all : List Place) → Knows tables.now all →
+    ensures { OnOk result ((all : List BodyParts) → Knows tables.now all →
         breaches_told told.new ≡ breaches_told told.old
         ++ extension_breaches all (body_view body.now) (field_view extension.now)) }
 {
@@ -172,7 +172,7 @@ fn check_as_extension<'a>(
     body: &'a Body<'a>,
     extension: &'a FieldDescriptorProto,
 ) -> Result<(), AllocError>
-    ensures { OnOk result ((all : List Place) → Knows tables.now all →
+    ensures { OnOk result ((all : List BodyParts) → Knows tables.now all →
         breaches_told told.new ≡ breaches_told told.old
         ++ breaches_at (site_in (body_view body.now) (field_view extension.now).name)
         (extension_rules all body.now.proto3 (field_view extension.now))) }
@@ -195,7 +195,7 @@ fn check_common<'a>(
     body: &'a Body<'a>,
     field: &'a FieldDescriptorProto,
 ) -> Result<(), AllocError>
-    ensures { OnOk result ((all : List Place) → Knows tables.now all →
+    ensures { OnOk result ((all : List BodyParts) → Knows tables.now all →
         breaches_told told.new ≡ breaches_told told.old
         ++ breaches_at (site_in (body_view body.now) (field_view field.now).name)
         (common_rules all body.now.proto3 (field_view field.now))) }
@@ -214,7 +214,7 @@ fn check_less_ordinary<'a>(
     body: &'a Body<'a>,
     field: &'a FieldDescriptorProto,
 ) -> Result<(), AllocError>
-    ensures { OnOk result ((all : List Place) → Knows tables.now all →
+    ensures { OnOk result ((all : List BodyParts) → Knows tables.now all →
         breaches_told told.new ≡ breaches_told told.old
         ++ breaches_at (site_in (body_view body.now) (field_view field.now).name)
         (common_rules all body.now.proto3 (field_view field.now))) }
@@ -234,7 +234,7 @@ fn check_unusual<'a>(
     body: &'a Body<'a>,
     field: &'a FieldDescriptorProto,
 ) -> Result<(), AllocError>
-    ensures { OnOk result ((all : List Place) → Knows tables.now all →
+    ensures { OnOk result ((all : List BodyParts) → Knows tables.now all →
         breaches_told told.new ≡ breaches_told told.old
         ++ breaches_at (site_in (body_view body.now) (field_view field.now).name)
         (common_rules all body.now.proto3 (field_view field.now))) }

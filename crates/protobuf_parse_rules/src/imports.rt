@@ -8,13 +8,13 @@ ghost use Rattle.protobuf_parse_rules.specs.Imports as spec;
 ghost use Rattle.protobuf_parse_rules.specs.Imports.{import_breaches, unused_imports};
 ghost use Rattle.protobuf_parse_rules.specs.KnownUses.{KnowsUses};
 ghost use Rattle.protobuf_parse_rules.specs.Marks.{Marks};
-ghost use Rattle.protobuf_parse_rules.specs.Places.{Place, body_view};
+ghost use Rattle.protobuf_parse_rules.specs.Bodies.{BodyParts, body_view};
 ghost use Rattle.protobuf_parse_rules.specs.Positions.{by_position};
 ghost use Rattle.protobuf_parse_rules.specs.Rules.{breaches_at, breaches_told};
-ghost use Rattle.protobuf_parse_rules.specs.Violations.{site_of_place};
+ghost use Rattle.protobuf_parse_rules.specs.Violations.{site_of_body};
 
+use crate::bodies::{Body, Holds};
 use crate::finding::{Finding, found_by};
-use crate::places::{Body, Holds};
 use crate::positions::{is_marked, marks_of};
 use crate::rule::Rule;
 use crate::tell::tell;
@@ -30,7 +30,7 @@ pub fn check_unused_imports<'a>(
     uses: &Uses<'a>,
     body: &'a Body<'a>,
 ) -> Result<(), AllocError>
-    ensures { OnOk result ((all : List Place) → KnowsUses uses.now all →
+    ensures { OnOk result ((all : List BodyParts) → KnowsUses uses.now all →
         breaches_told told.new ≡ breaches_told told.old
         ++ unused_imports all (body_view body.now)) }
 {
@@ -47,9 +47,9 @@ fn check_file<'a>(
     body: &'a Body<'a>,
     file: &'a FileDescriptorProto,
 ) -> Result<(), AllocError>
-    ensures { OnOk result ((all : List Place) → KnowsUses uses.now all →
+    ensures { OnOk result ((all : List BodyParts) → KnowsUses uses.now all →
         breaches_told told.new ≡ breaches_told told.old
-        ++ by_position (import_breaches all (site_of_place (body_view body.now))
+        ++ by_position (import_breaches all (site_of_body (body_view body.now))
         (file_view file.now).public_dependency) 0 (file_view file.now).dependency) }
 {
     let publics = marks_of(alloc, &file.public_dependency, file.dependency.len())?;
@@ -64,14 +64,14 @@ fn check_each<'a>(
     publics: &[bool],
     paths: &'a [String],
 ) -> Result<(), AllocError>
-    ensures { OnOk result ((all : List Place) (positions : List ℤ) → KnowsUses uses.now all →
+    ensures { OnOk result ((all : List BodyParts) (positions : List ℤ) → KnowsUses uses.now all →
         Marks positions (length paths.now) publics.now →
         breaches_told told.new ≡ breaches_told told.old
-        ++ by_position (import_breaches all (site_of_place (body_view body.now)) positions) 0
+        ++ by_position (import_breaches all (site_of_body (body_view body.now)) positions) 0
         (map string_bytes paths.now)) }
 {
-    'imports: for (place, path) in paths.iter().enumerate() {
-        check_one(alloc, told, uses, body, is_marked(publics, place), path)?;
+    'imports: for (position, path) in paths.iter().enumerate() {
+        check_one(alloc, told, uses, body, is_marked(publics, position), path)?;
     }
     Ok(())
 }
@@ -84,9 +84,9 @@ fn check_one<'a>(
     handed_on: bool,
     path: &'a str,
 ) -> Result<(), AllocError>
-    ensures { OnOk result ((all : List Place) → KnowsUses uses.now all →
+    ensures { OnOk result ((all : List BodyParts) → KnowsUses uses.now all →
         breaches_told told.new ≡ breaches_told told.old
-        ++ breaches_at (site_of_place (body_view body.now))
+        ++ breaches_at (site_of_body (body_view body.now))
         (spec.unused_import all body.now.file.now handed_on path.now ∷ [])) }
 {
     let found = unused_import(uses, body.file, handed_on, path);
@@ -100,7 +100,7 @@ fn unused_import<'a>(
     handed_on: bool,
     path: &'a str,
 ) -> Option<Finding<'a>>
-    ensures { (all : List Place) → KnowsUses uses.now all → option_map finding_view result
+    ensures { (all : List BodyParts) → KnowsUses uses.now all → option_map finding_view result
         ≡ spec.unused_import all from.now handed_on path.now }
 {
     if !handed_on && is_unused(uses, from, path) {
@@ -111,7 +111,7 @@ fn unused_import<'a>(
 }
 
 fn is_unused<'a>(uses: &Uses<'a>, from: &'a str, path: &'a str) -> bool
-    ensures { (all : List Place) → KnowsUses uses.now all →
+    ensures { (all : List BodyParts) → KnowsUses uses.now all →
         result ≡ spec.is_unused all from.now path.now }
 {
     (uses.hands_on_none(path) && !is_of_options(path)) && !uses.is_needed(from, path)

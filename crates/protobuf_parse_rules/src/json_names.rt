@@ -8,8 +8,8 @@ ghost use Rattle.protobuf_parse_rules.specs.ClaimsKept.{Claims};
 ghost use Rattle.protobuf_parse_rules.specs.JsonNames.{json_claim, json_rule};
 ghost use Rattle.protobuf_parse_rules.specs.Rules.{breaches_told};
 
+use crate::bodies::Body;
 use crate::claims::{Held, Holders, Thing, check_claim};
-use crate::places::Body;
 use crate::violation::Violation;
 use protobuf_parse_model::{FieldDescriptorProto, are_apart, hash_of};
 use std::alloc::{AllocError, Global};

@@ -4,7 +4,7 @@
 
 ghost use Rattle.std.specs.Prelude.{◌≡◌, encode_utf8_all};
 ghost use Rattle.std.specs.List.{fold};
-ghost use Rattle.protobuf_parse_rules.specs.Alike.{plain};
+ghost use Rattle.protobuf_parse_rules.specs.Alike.{squeezed};
 ghost use Rattle.protobuf_parse_rules.specs.Keys as spec;
 ghost use Rattle.protobuf_parse_rules.specs.Keys.{key_of};
 ghost use Rattle.protobuf_parse_rules.specs.Known.{keyed};
@@ -59,25 +59,31 @@ pub fn keyed(text: &str) -> (u64, &str)
 /// The key of a text with this name behind it, by that of the text; the name in lower case and
 /// without underscores, which is not made for it. In the bytes of characters beyond ASCII stand
 /// neither underscores nor capitals.
-pub fn plain_key(front: u64, name: &str) -> u64
-    ensures { result ≡ fold spec.mixed front (encode_utf8_all (plain name.now)) }
+pub fn squeezed_key(front: u64, name: &str) -> u64
+    ensures { result ≡ fold spec.mixed front (encode_utf8_all (squeezed name.now)) }
 {
     let mut rest = name.as_bytes();
     let mut key = front;
     'rest: while let [a, b, c, d, e, f, g, h, more @ ..] = rest {
-        let half = plain_mixed(plain_mixed(plain_mixed(plain_mixed(key, *a), *b), *c), *d);
-        key = plain_mixed(plain_mixed(plain_mixed(plain_mixed(half, *e), *f), *g), *h);
+        let half = squeezed_mixed(
+            squeezed_mixed(squeezed_mixed(squeezed_mixed(key, *a), *b), *c),
+            *d,
+        );
+        key = squeezed_mixed(
+            squeezed_mixed(squeezed_mixed(squeezed_mixed(half, *e), *f), *g),
+            *h,
+        );
         rest = more;
     }
-    plain_bytes_key(key, rest)
+    squeezed_bytes_key(key, rest)
 }
 
-fn plain_bytes_key(front: u64, bytes: &[u8]) -> u64
-    ensures { result ≡ fold spec.plain_mixed front bytes.now }
+fn squeezed_bytes_key(front: u64, bytes: &[u8]) -> u64
+    ensures { result ≡ fold spec.squeezed_mixed front bytes.now }
 {
     let mut key = front;
     'bytes: for byte in bytes {
-        key = plain_mixed(key, *byte);
+        key = squeezed_mixed(key, *byte);
     }
     key
 }
@@ -85,8 +91,8 @@ fn plain_bytes_key(front: u64, bytes: &[u8]) -> u64
 /// The key of a text and one byte more, if that is no underscore. Small letters come first, since
 /// names mostly have these: that, and eight bytes at a time, spared 10 million instructions for
 /// 100,000 fields.
-fn plain_mixed(key: u64, byte: u8) -> u64
-    ensures { result ≡ spec.plain_mixed key byte }
+fn squeezed_mixed(key: u64, byte: u8) -> u64
+    ensures { result ≡ spec.squeezed_mixed key byte }
 {
     if byte >= b'a' {
         mixed(key, byte)

@@ -6,12 +6,12 @@ ghost use Rattle.protobuf_parse_model.specs.Descriptors.{EnumValueDescriptor, en
 ghost use Rattle.protobuf_parse_model.specs.Descriptors.{enum_view};
 ghost use Rattle.protobuf_parse_rules.specs.Covers.{AreEnds};
 ghost use Rattle.protobuf_parse_rules.specs.EnumUses.{value_names};
-ghost use Rattle.protobuf_parse_rules.specs.Places.{content_view, extension_ranges};
+ghost use Rattle.protobuf_parse_rules.specs.Bodies.{content_view, extension_ranges};
 ghost use Rattle.protobuf_parse_rules.specs.Ranges.{in_range, in_ranges};
 ghost use Rattle.protobuf_parse_rules.specs.Sets.{AreTexts};
 
+use crate::bodies::Holds;
 use crate::cover::Cover;
-use crate::places::Holds;
 use crate::ranges::kept_cover;
 use crate::words::Words;
 use protobuf_parse_model::{EnumDescriptorProto, EnumValueDescriptorProto};

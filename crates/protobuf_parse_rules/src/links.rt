@@ -6,13 +6,13 @@ ghost use Rattle.std.specs.BTreeSet.{contains};
 ghost use Rattle.std.specs.List.{list_any};
 ghost use Rattle.protobuf_parse_model.specs.Descriptors.{field_view, method_view, service_view};
 ghost use Rattle.protobuf_parse_rules.specs.Imports as spec;
-ghost use Rattle.protobuf_parse_rules.specs.Imports.{field_types, method_types, place_names};
+ghost use Rattle.protobuf_parse_rules.specs.Imports.{field_types, method_types, body_names};
 ghost use Rattle.protobuf_parse_rules.specs.Imports.{service_types};
 ghost use Rattle.protobuf_parse_rules.specs.Known.{KnowsTypes};
 ghost use Rattle.protobuf_parse_rules.specs.KnownUses.{Adds, AddsNames, Link, link_cmp};
-ghost use Rattle.protobuf_parse_rules.specs.Places.{Place, body_view};
+ghost use Rattle.protobuf_parse_rules.specs.Bodies.{BodyParts, body_view};
 
-use crate::places::Body;
+use crate::bodies::Body;
 use crate::tables::Types;
 use protobuf_parse_model::{FieldDescriptorProto, MethodDescriptorProto, ServiceDescriptorProto};
 use std::alloc::{AllocError, Global};
@@ -36,9 +36,9 @@ pub fn links_of<'a>(
     types: &Types<'a>,
     bodies: &'a [Body<'a>],
 ) -> Result<Links<'a>, AllocError>
-    ensures { IfOk result (λ links. (all : List Place) → KnowsTypes types.now all → (k : Link)
+    ensures { IfOk result (λ links. (all : List BodyParts) → KnowsTypes types.now all → (k : Link)
         → contains link_cmp links k
-        ≡ list_any (place_names all k.0.now k.1.now) (map body_view bodies.now)) }
+        ≡ list_any (body_names all k.0.now k.1.now) (map body_view bodies.now)) }
 {
     let mut links: Links<'a> = BTreeSet::new(alloc);
     'bodies: for body in bodies {
@@ -52,8 +52,9 @@ fn add_body<'a>(
     types: &Types<'a>,
     body: &'a Body<'a>,
 ) -> Result<(), AllocError>
-    ensures { OnOk result ((all : List Place) → KnowsTypes types.now all → Adds links.old links.new
-        (λ (k : Link). place_names all k.0.now k.1.now (body_view body.now))) }
+    ensures { OnOk result
+        ((all : List BodyParts) → KnowsTypes types.now all → Adds links.old links.new
+        (λ (k : Link). body_names all k.0.now k.1.now (body_view body.now))) }
 {
     add_fields(links, types, body.file, body.holds.fields())?;
     add_fields(links, types, body.file, body.holds.extensions())?;
@@ -67,7 +68,7 @@ fn add_fields<'a>(
     from: &'a str,
     fields: &'a [FieldDescriptorProto],
 ) -> Result<(), AllocError>
-    ensures { OnOk result ((all : List Place) → KnowsTypes types.now all →
+    ensures { OnOk result ((all : List BodyParts) → KnowsTypes types.now all →
         AddsNames all links.old links.new from.now
         (flat_map field_types (map field_view fields.now))) }
 {
@@ -83,7 +84,7 @@ fn add_field<'a>(
     from: &'a str,
     field: &'a FieldDescriptorProto,
 ) -> Result<(), AllocError>
-    ensures { OnOk result ((all : List Place) → KnowsTypes types.now all →
+    ensures { OnOk result ((all : List BodyParts) → KnowsTypes types.now all →
         AddsNames all links.old links.new from.now (field_types (field_view field.now))) }
 {
     add_named(links, types, from, &field.type_name)?;
@@ -96,7 +97,7 @@ fn add_named<'a>(
     from: &'a str,
     name: &'a Option<String>,
 ) -> Result<(), AllocError>
-    ensures { OnOk result ((all : List Place) → KnowsTypes types.now all →
+    ensures { OnOk result ((all : List BodyParts) → KnowsTypes types.now all →
         AddsNames all links.old links.new from.now
         (option_to_list (option_map string_bytes name.now))) }
 {
@@ -113,7 +114,7 @@ fn add_services<'a>(
     from: &'a str,
     services: &'a [ServiceDescriptorProto],
 ) -> Result<(), AllocError>
-    ensures { OnOk result ((all : List Place) → KnowsTypes types.now all →
+    ensures { OnOk result ((all : List BodyParts) → KnowsTypes types.now all →
         AddsNames all links.old links.new from.now
         (flat_map service_types (map service_view services.now))) }
 {
@@ -129,7 +130,7 @@ fn add_methods<'a>(
     from: &'a str,
     methods: &'a [MethodDescriptorProto],
 ) -> Result<(), AllocError>
-    ensures { OnOk result ((all : List Place) → KnowsTypes types.now all →
+    ensures { OnOk result ((all : List BodyParts) → KnowsTypes types.now all →
         AddsNames all links.old links.new from.now
         (flat_map method_types (map method_view methods.now))) }
 {
@@ -145,7 +146,7 @@ fn add_method<'a>(
     from: &'a str,
     method: &'a MethodDescriptorProto,
 ) -> Result<(), AllocError>
-    ensures { OnOk result ((all : List Place) → KnowsTypes types.now all →
+    ensures { OnOk result ((all : List BodyParts) → KnowsTypes types.now all →
         AddsNames all links.old links.new from.now (method_types (method_view method.now))) }
 {
     add_type(links, types, from, &method.input_type)?;
@@ -159,7 +160,7 @@ fn add_type<'a>(
     from: &'a str,
     name: &'a str,
 ) -> Result<(), AllocError>
-    ensures { OnOk result ((all : List Place) → KnowsTypes types.now all →
+    ensures { OnOk result ((all : List BodyParts) → KnowsTypes types.now all →
         AddsNames all links.old links.new from.now (name.now ∷ [])) }
 {
     add_message(links, types, from, name)?;
@@ -172,7 +173,8 @@ fn add_message<'a>(
     from: &'a str,
     name: &'a str,
 ) -> Result<(), AllocError>
-    ensures { OnOk result ((all : List Place) → KnowsTypes types.now all → Adds links.old links.new
+    ensures { OnOk result
+        ((all : List BodyParts) → KnowsTypes types.now all → Adds links.old links.new
         (λ (k : Link). bytes_eq from.now k.0.now && spec.is_message_of all k.1.now name.now)) }
 {
     match types.message(name) {
@@ -187,7 +189,8 @@ fn add_enum<'a>(
     from: &'a str,
     name: &'a str,
 ) -> Result<(), AllocError>
-    ensures { OnOk result ((all : List Place) → KnowsTypes types.now all → Adds links.old links.new
+    ensures { OnOk result
+        ((all : List BodyParts) → KnowsTypes types.now all → Adds links.old links.new
         (λ (k : Link). bytes_eq from.now k.0.now && spec.is_enum_of all k.1.now name.now)) }
 {
     match types.enumeration(name) {

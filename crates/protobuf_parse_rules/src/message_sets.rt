@@ -3,10 +3,10 @@
 ghost use Rattle.std.specs.Prelude.{◌≡◌, option_map};
 ghost use Rattle.protobuf_parse_rules.specs.Findings.{finding_view};
 ghost use Rattle.protobuf_parse_rules.specs.MessageSets as spec;
-ghost use Rattle.protobuf_parse_rules.specs.Places.{content_view};
+ghost use Rattle.protobuf_parse_rules.specs.Bodies.{content_view};
 
+use crate::bodies::Holds;
 use crate::finding::{Finding, found_if};
-use crate::places::Holds;
 use crate::rule::Rule;
 
 /// Whether this is a message with the wire format of message sets.

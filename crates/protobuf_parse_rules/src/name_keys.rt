@@ -9,12 +9,12 @@ ghost use Rattle.protobuf_parse_rules.specs.Keys as spec;
 ghost use Rattle.protobuf_parse_rules.specs.Keys.{inside, mixed, name_key, packages_at};
 ghost use Rattle.protobuf_parse_rules.specs.KnownNames.{named_view};
 ghost use Rattle.protobuf_parse_rules.specs.Names.{names_in_use};
-ghost use Rattle.protobuf_parse_rules.specs.Places.{body_view, content_view};
+ghost use Rattle.protobuf_parse_rules.specs.Bodies.{body_view, content_view};
 
+use crate::bodies::{Body, Holds};
 use crate::crowds::many_are_apart;
 use crate::keys::{NO_TEXT, text_key};
 use crate::names::{Named, packages_of};
-use crate::places::{Body, Holds};
 use protobuf_parse_model::{
     EnumDescriptorProto, EnumValueDescriptorProto, FieldDescriptorProto, MethodDescriptorProto,
     OneofDescriptorProto, ServiceDescriptorProto,

@@ -12,13 +12,13 @@ ghost use Rattle.protobuf_parse_rules.specs.KnownNames.{named_view};
 ghost use Rattle.protobuf_parse_rules.specs.Names as spec;
 ghost use Rattle.protobuf_parse_rules.specs.Names.{name_claim, name_rule, names_at};
 ghost use Rattle.protobuf_parse_rules.specs.Names.{named_in};
-ghost use Rattle.protobuf_parse_rules.specs.Places.{body_view, content_view};
+ghost use Rattle.protobuf_parse_rules.specs.Bodies.{body_view, content_view};
 ghost use Rattle.protobuf_parse_rules.specs.Rules.{breaches_told};
 ghost use Rattle.protobuf_parse_rules.specs.declared.kind.NamedKind.TheVariants as kind;
 
+use crate::bodies::{Body, Holds};
 use crate::claims::{Held, Holder, Holders, Thing, check_claim};
 use crate::kind::NamedKind;
-use crate::places::{Body, Holds};
 use crate::violation::Violation;
 use protobuf_parse_model::{
     EnumDescriptorProto, EnumValueDescriptorProto, FieldDescriptorProto, MethodDescriptorProto,

@@ -4,7 +4,7 @@ ghost use Rattle.std.specs.Prelude.{◌≡◌, [], ◌∷◌, ◌++◌, map, fla
 ghost use Rattle.std.specs.Prelude.{pos, string_bytes};
 ghost use Rattle.std.specs.List.{list_any};
 ghost use Rattle.protobuf_parse_model.specs.Descriptors.{field_view};
-ghost use Rattle.protobuf_parse_rules.specs.Places.{body_view};
+ghost use Rattle.protobuf_parse_rules.specs.Bodies.{body_view};
 ghost use Rattle.protobuf_parse_rules.specs.Claims.{conflicts};
 ghost use Rattle.protobuf_parse_rules.specs.ClaimsKept.{Claims};
 ghost use Rattle.protobuf_parse_rules.specs.Ascending as spec;
@@ -14,10 +14,10 @@ ghost use Rattle.protobuf_parse_rules.specs.Numbers.{claim_of, claims, extension
 ghost use Rattle.protobuf_parse_rules.specs.Numbers.{extension_claims};
 ghost use Rattle.protobuf_parse_rules.specs.Numbers.{field_claims, number_rule};
 
+use crate::bodies::{Body, Holds};
 use crate::claims::{Held, Holders, Thing, check_claim};
 use crate::crowds::many_are_apart;
 use crate::keys::{NO_TEXT, key_of, text_key};
-use crate::places::{Body, Holds};
 use crate::uses::has_extensions;
 use crate::violation::Violation;
 use protobuf_parse_model::FieldDescriptorProto;

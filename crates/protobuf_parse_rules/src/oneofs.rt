@@ -6,13 +6,13 @@ ghost use Rattle.protobuf_parse_model.specs.Descriptors.{field_view, oneof_view}
 ghost use Rattle.protobuf_parse_rules.specs.Marks.{Marks};
 ghost use Rattle.protobuf_parse_rules.specs.Oneofs as spec;
 ghost use Rattle.protobuf_parse_rules.specs.Oneofs.{empty_oneofs, oneofs_held};
-ghost use Rattle.protobuf_parse_rules.specs.Places.{body_view};
+ghost use Rattle.protobuf_parse_rules.specs.Bodies.{body_view};
 ghost use Rattle.protobuf_parse_rules.specs.Positions.{by_position};
 ghost use Rattle.protobuf_parse_rules.specs.Rules.{breaches_at, breaches_told};
 ghost use Rattle.protobuf_parse_rules.specs.Violations.{site_in};
 
+use crate::bodies::{Body, Holds};
 use crate::finding::found_if;
-use crate::places::{Body, Holds};
 use crate::positions::{is_marked, marks_of};
 use crate::rule::Rule;
 use crate::tell::tell;
@@ -107,8 +107,8 @@ fn check_each(
         ++ by_position (spec.oneof_breaches body.now.file.now (string_bytes body.now.scope) held)
         0 (map oneof_view oneofs.now)) }
 {
-    'oneofs: for (place, oneof) in oneofs.iter().enumerate() {
-        check_one(alloc, told, body, is_marked(marks, place), oneof)?;
+    'oneofs: for (position, oneof) in oneofs.iter().enumerate() {
+        check_one(alloc, told, body, is_marked(marks, position), oneof)?;
     }
     Ok(())
 }

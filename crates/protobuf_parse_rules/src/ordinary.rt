@@ -5,16 +5,16 @@ ghost use Rattle.std.specs.Prelude.{◌≡◌, false, is_none};
 ghost use Rattle.protobuf_parse_model.specs.Descriptors.{field_view};
 ghost use Rattle.protobuf_parse_rules.specs.Limits.{limit};
 ghost use Rattle.protobuf_parse_rules.specs.Ordinary as spec;
-ghost use Rattle.protobuf_parse_rules.specs.Places.{content_view};
+ghost use Rattle.protobuf_parse_rules.specs.Bodies.{content_view};
 
 use crate::bars::Bars;
+use crate::bodies::Holds;
 use crate::defaults::default_of;
 use crate::enum_uses::is_enum;
 use crate::field_options::{js_type_option, lazy_option, packed_option};
 use crate::limits::limit;
 use crate::maps::{is_entry, is_no_key};
 use crate::message_sets::is_message_set;
-use crate::places::Holds;
 use protobuf_parse_model::{FieldDescriptorProto, FieldType, Label};
 
 /// Whether the body reserves and keeps no numbers and no names, and is neither a message set nor

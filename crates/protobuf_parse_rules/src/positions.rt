@@ -14,8 +14,8 @@ pub fn marks_of(alloc: Global, numbers: &[i32], count: usize) -> Result<Vec<bool
     let mut marks = vec![in alloc; false; count]?;
     'numbers: for number in numbers {
         match named_among(count, number) {
-            Some(place) => {
-                marks[place] = true;
+            Some(position) => {
+                marks[position] = true;
             }
             None => {}
         }
@@ -28,19 +28,23 @@ fn named_among(count: usize, number: &i32) -> Option<usize>
     ensures { result ≡ spec.named_among count number.now }
 {
     if *number >= 0 {
-        let place = number.unsigned_abs() as usize;
-        if place < count { Some(place) } else { None }
+        let position = number.unsigned_abs() as usize;
+        if position < count {
+            Some(position)
+        } else {
+            None
+        }
     } else {
         None
     }
 }
 
 /// Whether the position is marked.
-pub fn is_marked(marks: &[bool], place: usize) -> bool
-    ensures { (numbers : List ℤ) (count : ℕ) → Marks numbers count marks.now → place < count →
-        result ≡ is_named numbers place }
+pub fn is_marked(marks: &[bool], position: usize) -> bool
+    ensures { (numbers : List ℤ) (count : ℕ) → Marks numbers count marks.now → position < count →
+        result ≡ is_named numbers position }
 {
-    match marks.get(place) {
+    match marks.get(position) {
         Some(mark) => *mark,
         None => false,
     }

@@ -2,12 +2,12 @@
 
 ghost use Rattle.std.specs.Prelude.{◌≡◌, ◌&&◌, is_some, map, option_map, string_bytes};
 ghost use Rattle.protobuf_parse_rules.specs.Findings.{finding_view};
-ghost use Rattle.protobuf_parse_rules.specs.Places.{content_view};
+ghost use Rattle.protobuf_parse_rules.specs.Bodies.{content_view};
 ghost use Rattle.protobuf_parse_rules.specs.Proto3 as spec;
 
+use crate::bodies::Holds;
 use crate::finding::{Finding, found_by, found_if};
 use crate::message_sets::is_message_set;
-use crate::places::Holds;
 use crate::rule::Rule;
 use protobuf_parse_model::{FieldType, Label};
 

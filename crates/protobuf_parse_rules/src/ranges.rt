@@ -7,10 +7,10 @@ ghost use Rattle.protobuf_parse_model.specs.Descriptors.{reserved_range_view};
 ghost use Rattle.protobuf_parse_rules.specs.Covers.{AreEnds};
 ghost use Rattle.protobuf_parse_rules.specs.Findings.{finding_view, site_of};
 ghost use Rattle.protobuf_parse_rules.specs.MessageSets.{is_message_set};
-ghost use Rattle.protobuf_parse_rules.specs.Places.{body_view, content_view};
+ghost use Rattle.protobuf_parse_rules.specs.Bodies.{body_view, content_view};
 ghost use Rattle.protobuf_parse_rules.specs.Ranges as spec;
 ghost use Rattle.protobuf_parse_rules.specs.Rules.{breaches_told};
-ghost use Rattle.protobuf_parse_rules.specs.Violations.{site_of_place};
+ghost use Rattle.protobuf_parse_rules.specs.Violations.{site_of_body};
 
 use crate::bars::Bars;
 use crate::cover::{Cover, add_open, no_ends};
@@ -124,7 +124,7 @@ pub fn check_extension_ranges(
     ranges: &[ExtensionRange],
 ) -> Result<(), AllocError>
     ensures { OnOk result (breaches_told told.new ≡ breaches_told told.old
-        ++ flat_map (spec.extension_range (site_of_place (body_view bars.now.body.now))
+        ++ flat_map (spec.extension_range (site_of_body (body_view bars.now.body.now))
         (is_message_set (content_view bars.now.body.now.holds))
         (spec.ranges_of (content_view bars.now.body.now.holds)))
         (map extension_range_view ranges.now)) }
@@ -142,7 +142,7 @@ fn check_extension_range(
     range: &ExtensionRange,
 ) -> Result<(), AllocError>
     ensures { OnOk result (breaches_told told.new ≡ breaches_told told.old
-        ++ spec.extension_range (site_of_place (body_view bars.now.body.now))
+        ++ spec.extension_range (site_of_body (body_view bars.now.body.now))
         (is_message_set (content_view bars.now.body.now.holds))
         (spec.ranges_of (content_view bars.now.body.now.holds)) (extension_range_view range.now)) }
 {
@@ -163,7 +163,7 @@ pub fn check_reserved_ranges(
     ranges: &[ReservedRange],
 ) -> Result<(), AllocError>
     ensures { OnOk result (breaches_told told.new ≡ breaches_told told.old
-        ++ flat_map (spec.reserved_range (site_of_place (body_view bars.now.body.now))
+        ++ flat_map (spec.reserved_range (site_of_body (body_view bars.now.body.now))
         (spec.ranges_of (content_view bars.now.body.now.holds)))
         (map reserved_range_view ranges.now)) }
 {
@@ -180,7 +180,7 @@ fn check_reserved_range(
     range: &ReservedRange,
 ) -> Result<(), AllocError>
     ensures { OnOk result (breaches_told told.new ≡ breaches_told told.old
-        ++ spec.reserved_range (site_of_place (body_view bars.now.body.now))
+        ++ spec.reserved_range (site_of_body (body_view bars.now.body.now))
         (spec.ranges_of (content_view bars.now.body.now.holds)) (reserved_range_view range.now)) }
 {
     let found = [not_positive(range.start), overlapping(bars, &range.start)];

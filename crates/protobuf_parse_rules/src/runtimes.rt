@@ -7,18 +7,18 @@ ghost use Rattle.std.specs.List.{list_any};
 ghost use Rattle.protobuf_parse_model.specs.Descriptors.{Text, field_view, file_view, service_view};
 ghost use Rattle.protobuf_parse_rules.specs.Findings.{finding_view, site_of};
 ghost use Rattle.protobuf_parse_rules.specs.Known.{Finds};
-ghost use Rattle.protobuf_parse_rules.specs.KnownFiles.{Tells, is_lite_place, known_file};
+ghost use Rattle.protobuf_parse_rules.specs.KnownFiles.{Tells, is_lite_body, known_file};
 ghost use Rattle.protobuf_parse_rules.specs.KnownFiles.{path_named};
-ghost use Rattle.protobuf_parse_rules.specs.Places.{Place, body_view, content_view};
+ghost use Rattle.protobuf_parse_rules.specs.Bodies.{BodyParts, body_view, content_view};
 ghost use Rattle.protobuf_parse_rules.specs.Rules.{breaches_told};
 ghost use Rattle.protobuf_parse_rules.specs.Runtimes as spec;
 ghost use Rattle.protobuf_parse_rules.specs.Runtimes.{NamedFile, declaring_file, file_at};
 ghost use Rattle.protobuf_parse_rules.specs.Runtimes.{file_named, is_lite_path, runtime_breaches};
 
+use crate::bodies::{Body, Holds};
 use crate::claims::{Holders, Thing, first_of};
 use crate::finding::{Finding, Spot, found, found_by};
 use crate::keys::keyed;
-use crate::places::{Body, Holds};
 use crate::rule::Rule;
 use crate::tell::tell;
 use crate::violation::Violation;
@@ -44,7 +44,7 @@ pub struct Declared<'a> {
 
 impl<'a> Declared<'a> {
     fn file(&self, path: &'a str) -> Option<KnownFile<'a>>
-        ensures { (all : List Place) → Tells self.now all →
+        ensures { (all : List BodyParts) → Tells self.now all →
             option_map known_file result ≡ file_named all path.now }
     {
         file_with(&self.files, path)
@@ -52,7 +52,7 @@ impl<'a> Declared<'a> {
 
     /// The file of the first that has the full name.
     fn file_of(&self, name: &'a str) -> Option<&'a str>
-        ensures { (all : List Place) → Tells self.now all →
+        ensures { (all : List BodyParts) → Tells self.now all →
             option_map (λ (path : Bor Text). path.now) result ≡ declaring_file all name.now }
     {
         let thing = Thing {
@@ -68,7 +68,7 @@ impl<'a> Declared<'a> {
 
     /// Whether a file has the path, and is for the lite runtime.
     fn is_lite(&self, path: &'a str) -> bool
-        ensures { (all : List Place) → Tells self.now all → result ≡ is_lite_path all path.now }
+        ensures { (all : List BodyParts) → Tells self.now all → result ≡ is_lite_path all path.now }
     {
         match self.file(path) {
             Some(known) => is_lite(known.file),
@@ -163,7 +163,7 @@ fn put_file<'a>(
 
 /// Whether one of the bodies is a file for the lite runtime.
 pub fn have_lite(bodies: &[Body<'_>]) -> bool
-    ensures { result ≡ list_any is_lite_place (map body_view bodies.now) }
+    ensures { result ≡ list_any is_lite_body (map body_view bodies.now) }
 {
     let mut lite = false;
     'bodies: for body in bodies {
@@ -173,7 +173,7 @@ pub fn have_lite(bodies: &[Body<'_>]) -> bool
 }
 
 fn is_lite_body(body: &Body<'_>) -> bool
-    ensures { result ≡ is_lite_place (body_view body.now) }
+    ensures { result ≡ is_lite_body (body_view body.now) }
 {
     match body.holds {
         Holds::File(file) => is_lite(file),
@@ -188,7 +188,7 @@ pub fn check_runtimes<'a>(
     declared: &Declared<'a>,
     bodies: &'a [Body<'a>],
 ) -> Result<(), AllocError>
-    ensures { OnOk result ((all : List Place) → Tells declared.now all →
+    ensures { OnOk result ((all : List BodyParts) → Tells declared.now all →
         breaches_told told.new ≡ breaches_told told.old
         ++ flat_map (runtime_breaches all) (map body_view bodies.now)) }
 {
@@ -204,7 +204,7 @@ fn check_body<'a>(
     declared: &Declared<'a>,
     body: &'a Body<'a>,
 ) -> Result<(), AllocError>
-    ensures { OnOk result ((all : List Place) → Tells declared.now all →
+    ensures { OnOk result ((all : List BodyParts) → Tells declared.now all →
         breaches_told told.new ≡ breaches_told told.old
         ++ runtime_breaches all (body_view body.now)) }
 {
@@ -219,7 +219,7 @@ fn check_extensions<'a>(
     declared: &Declared<'a>,
     body: &'a Body<'a>,
 ) -> Result<(), AllocError>
-    ensures { OnOk result ((all : List Place) → Tells declared.now all →
+    ensures { OnOk result ((all : List BodyParts) → Tells declared.now all →
         breaches_told told.new ≡ breaches_told told.old
         ++ spec.lite_extensions all (body_view body.now)) }
 {
@@ -236,7 +236,7 @@ fn check_each_extension<'a>(
     body: &'a Body<'a>,
     extensions: &'a [FieldDescriptorProto],
 ) -> Result<(), AllocError>
-    ensures { OnOk result ((all : List Place) → Tells declared.now all →
+    ensures { OnOk result ((all : List BodyParts) → Tells declared.now all →
         breaches_told told.new ≡ breaches_told told.old
         ++ flat_map (spec.lite_extension all body.now.file.now (string_bytes body.now.scope))
         (map field_view extensions.now)) }
@@ -254,7 +254,7 @@ fn check_extension<'a>(
     body: &'a Body<'a>,
     extension: &'a FieldDescriptorProto,
 ) -> Result<(), AllocError>
-    ensures { OnOk result ((all : List Place) → Tells declared.now all →
+    ensures { OnOk result ((all : List BodyParts) → Tells declared.now all →
         breaches_told told.new ≡ breaches_told told.old
         ++ spec.lite_extension all body.now.file.now (string_bytes body.now.scope)
         (field_view extension.now)) }
@@ -267,7 +267,7 @@ fn lite_extension<'a>(
     declared: &Declared<'a>,
     extension: &'a FieldDescriptorProto,
 ) -> Option<Finding<'a>>
-    ensures { (all : List Place) → Tells declared.now all → option_map finding_view result
+    ensures { (all : List BodyParts) → Tells declared.now all → option_map finding_view result
         ≡ option_and_then (spec.lite_extendee all) (field_view extension.now).extendee }
 {
     match &extension.extendee {
@@ -277,7 +277,7 @@ fn lite_extension<'a>(
 }
 
 fn lite_extendee<'a>(declared: &Declared<'a>, name: &'a str) -> Option<Finding<'a>>
-    ensures { (all : List Place) → Tells declared.now all → option_map finding_view result
+    ensures { (all : List BodyParts) → Tells declared.now all → option_map finding_view result
         ≡ spec.lite_extendee all name.now }
 {
     match declared.file_of(name) {
@@ -299,7 +299,7 @@ fn check_file<'a>(
     declared: &Declared<'a>,
     body: &'a Body<'a>,
 ) -> Result<(), AllocError>
-    ensures { OnOk result ((all : List Place) → Tells declared.now all →
+    ensures { OnOk result ((all : List BodyParts) → Tells declared.now all →
         breaches_told told.new ≡ breaches_told told.old
         ++ spec.lite_file all body.now.file.now (string_bytes body.now.scope)
         (content_view body.now.holds)) }
@@ -317,7 +317,7 @@ fn check_lite_file<'a>(
     body: &'a Body<'a>,
     file: &'a FileDescriptorProto,
 ) -> Result<(), AllocError>
-    ensures { OnOk result ((all : List Place) → Tells declared.now all →
+    ensures { OnOk result ((all : List BodyParts) → Tells declared.now all →
         breaches_told told.new ≡ breaches_told told.old
         ++ (spec.lite_imports all (record {
           file = body.now.file.now;
@@ -337,7 +337,7 @@ fn check_imports<'a>(
     at: Spot<'_>,
     file: &'a FileDescriptorProto,
 ) -> Result<(), AllocError>
-    ensures { OnOk result ((all : List Place) → Tells declared.now all →
+    ensures { OnOk result ((all : List BodyParts) → Tells declared.now all →
         breaches_told told.new ≡ breaches_told told.old
         ++ spec.lite_imports all (site_of at.entry) (file_view file.now)) }
 {
@@ -354,7 +354,7 @@ fn check_each_import<'a>(
     at: Spot<'_>,
     imports: &'a [String],
 ) -> Result<(), AllocError>
-    ensures { OnOk result ((all : List Place) → Tells declared.now all →
+    ensures { OnOk result ((all : List BodyParts) → Tells declared.now all →
         breaches_told told.new ≡ breaches_told told.old
         ++ flat_map (spec.lite_import all (site_of at.entry)) (map string_bytes imports.now)) }
 {
@@ -371,7 +371,7 @@ fn check_import<'a>(
     at: Spot<'_>,
     path: &'a str,
 ) -> Result<(), AllocError>
-    ensures { OnOk result ((all : List Place) → Tells declared.now all →
+    ensures { OnOk result ((all : List BodyParts) → Tells declared.now all →
         breaches_told told.new ≡ breaches_told told.old
         ++ spec.lite_import all (site_of at.entry) path.now) }
 {
@@ -380,7 +380,7 @@ fn check_import<'a>(
 }
 
 fn of_lite_path<'a>(declared: &Declared<'a>, path: &'a str) -> Option<Finding<'a>>
-    ensures { (all : List Place) → Tells declared.now all → option_map finding_view result
+    ensures { (all : List BodyParts) → Tells declared.now all → option_map finding_view result
         ≡ spec.of_lite_path all path.now }
 {
     if declared.is_lite(path) {

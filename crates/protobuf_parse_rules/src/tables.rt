@@ -9,13 +9,13 @@ ghost use Rattle.protobuf_parse_rules.specs.Known.{known_message, message_name, 
 ghost use Rattle.protobuf_parse_rules.specs.KnownTables.{Knows};
 ghost use Rattle.protobuf_parse_rules.specs.Lookups.{NamedEnum, NamedMessage, enum_named};
 ghost use Rattle.protobuf_parse_rules.specs.Lookups.{enums_at, enum_of, message_at, message_named};
-ghost use Rattle.protobuf_parse_rules.specs.Places.{Place, body_view, content_view};
+ghost use Rattle.protobuf_parse_rules.specs.Bodies.{BodyParts, body_view, content_view};
 ghost use Rattle.protobuf_parse_rules.specs.declared.known.KnownEnum.{KnownEnum};
 ghost use Rattle.protobuf_parse_rules.specs.declared.known.KnownMessage.{KnownMessage};
 
+use crate::bodies::{Body, Holds};
 use crate::keys::keyed;
 use crate::known::{KnownEnum, KnownMessage, enum_with, message_with};
-use crate::places::{Body, Holds};
 use crate::uses::{Uses, no_uses, uses_of};
 use protobuf_parse_model::EnumDescriptorProto;
 use protobuf_parse_wire::name_within;
@@ -41,7 +41,7 @@ pub struct Types<'a> {
 impl<'a> Types<'a> {
     /// What is known of the message of this full name.
     pub fn message(&self, name: &'a str) -> Option<&KnownMessage<'a>>
-        ensures { (all : List Place) → KnowsTypes self.now all →
+        ensures { (all : List BodyParts) → KnowsTypes self.now all →
             option_map (λ (m : Bor KnownMessage). known_message m.now) result
             ≡ message_named all name.now }
     {
@@ -50,7 +50,7 @@ impl<'a> Types<'a> {
 
     /// What is known of the enum of this full name.
     pub fn enumeration(&self, name: &'a str) -> Option<&KnownEnum<'a>>
-        ensures { (all : List Place) → KnowsTypes self.now all →
+        ensures { (all : List BodyParts) → KnowsTypes self.now all →
             option_map (λ (e : Bor KnownEnum). known_enum e.now) result
             ≡ enum_named all name.now }
     {
@@ -68,7 +68,7 @@ pub struct Tables<'a> {
 impl<'a> Tables<'a> {
     /// What is known of the message of this full name.
     pub fn message(&self, name: &'a str) -> Option<&KnownMessage<'a>>
-        ensures { (all : List Place) → Knows self.now all →
+        ensures { (all : List BodyParts) → Knows self.now all →
             option_map (λ (m : Bor KnownMessage). known_message m.now) result
             ≡ message_named all name.now }
     {
@@ -77,7 +77,7 @@ impl<'a> Tables<'a> {
 
     /// What is known of the enum of this full name.
     pub fn enumeration(&self, name: &'a str) -> Option<&KnownEnum<'a>>
-        ensures { (all : List Place) → Knows self.now all →
+        ensures { (all : List BodyParts) → Knows self.now all →
             option_map (λ (e : Bor KnownEnum). known_enum e.now) result
             ≡ enum_named all name.now }
     {

@@ -7,13 +7,14 @@ ghost use Rattle.protobuf_parse_rules.specs.Imports.{extending_path, setting_pat
 ghost use Rattle.protobuf_parse_rules.specs.Known.{KnowsTypes};
 ghost use Rattle.protobuf_parse_rules.specs.KnownFiles.{known_file};
 ghost use Rattle.protobuf_parse_rules.specs.KnownUses.{KnowsUses};
-ghost use Rattle.protobuf_parse_rules.specs.Places.{Place, body_view, content_view, extensions_of};
+ghost use Rattle.protobuf_parse_rules.specs.Bodies.{BodyParts, body_view, content_view};
+ghost use Rattle.protobuf_parse_rules.specs.Bodies.{extensions_of};
 ghost use Rattle.protobuf_parse_rules.specs.Runtimes.{file_named};
 ghost use Rattle.protobuf_parse_rules.specs.Sets.{AreTexts, texts_of};
 
+use crate::bodies::{Body, Holds};
 use crate::customs::sets_custom;
 use crate::links::{Links, has_link, links_of};
-use crate::places::{Body, Holds};
 use crate::runtimes::{KnownFile, file_with, files_of};
 use crate::tables::Types;
 use crate::words::Words;
@@ -36,7 +37,7 @@ pub struct Uses<'a> {
 impl<'a> Uses<'a> {
     /// Whether a file has the path, and hands on no imports.
     pub fn hands_on_none(&self, path: &'a str) -> bool
-        ensures { (all : List Place) → KnowsUses self.now all →
+        ensures { (all : List BodyParts) → KnowsUses self.now all →
             result ≡ spec.hands_on_none all path.now }
     {
         match self.file(path) {
@@ -46,7 +47,7 @@ impl<'a> Uses<'a> {
     }
 
     fn file(&self, path: &'a str) -> Option<KnownFile<'a>>
-        ensures { (all : List Place) → KnowsUses self.now all →
+        ensures { (all : List BodyParts) → KnowsUses self.now all →
             option_map known_file result ≡ file_named all path.now }
     {
         file_with(&self.files, path)
@@ -54,21 +55,21 @@ impl<'a> Uses<'a> {
 
     /// Whether the file with the first path needs the one with the other.
     pub fn is_needed(&self, from: &'a str, path: &'a str) -> bool
-        ensures { (all : List Place) → KnowsUses self.now all →
+        ensures { (all : List BodyParts) → KnowsUses self.now all →
             result ≡ spec.is_needed all from.now path.now }
     {
         self.names(from, path) || self.may_set(from, path)
     }
 
     fn names(&self, from: &'a str, to: &'a str) -> bool
-        ensures { (all : List Place) → KnowsUses self.now all →
+        ensures { (all : List BodyParts) → KnowsUses self.now all →
             result ≡ spec.file_names all from.now to.now }
     {
         has_link(&self.links, from, to)
     }
 
     fn may_set(&self, from: &'a str, to: &'a str) -> bool
-        ensures { (all : List Place) → KnowsUses self.now all →
+        ensures { (all : List BodyParts) → KnowsUses self.now all →
             result ≡ spec.may_set all from.now to.now }
     {
         self.extending.contains(to) && self.setting.contains(from)

@@ -8,8 +8,8 @@ ghost use Rattle.protobuf_parse_rules.specs.JsonNames.{json_names_in_use};
 ghost use Rattle.protobuf_parse_rules.specs.KnownNames.{named_view};
 ghost use Rattle.protobuf_parse_rules.specs.KnownTables.{Knows};
 ghost use Rattle.protobuf_parse_rules.specs.Names.{names_at, names_in_use};
-ghost use Rattle.protobuf_parse_rules.specs.Places.{Place, body_view, content_view};
-ghost use Rattle.protobuf_parse_rules.specs.Places.{imports_of, reserved_names};
+ghost use Rattle.protobuf_parse_rules.specs.Bodies.{BodyParts, body_view, content_view};
+ghost use Rattle.protobuf_parse_rules.specs.Bodies.{imports_of, reserved_names};
 ghost use Rattle.protobuf_parse_rules.specs.Repeats.{repeats};
 ghost use Rattle.protobuf_parse_rules.specs.Rules.{breaches_at, breaches_told};
 ghost use Rattle.protobuf_parse_rules.specs.Runtimes.{runtime_breaches};
@@ -18,12 +18,13 @@ ghost use Rattle.protobuf_parse_rules.specs.ClaimsKept.{Checks};
 ghost use Rattle.protobuf_parse_rules.specs.Violations.{breaches_among, breaches_inside};
 ghost use Rattle.protobuf_parse_rules.specs.Violations.{breaches_in_rest, own_breaches, own_rules};
 ghost use Rattle.protobuf_parse_rules.specs.Violations.{imports_breaches, range_breaches};
-ghost use Rattle.protobuf_parse_rules.specs.Violations.{site_of_place};
+ghost use Rattle.protobuf_parse_rules.specs.Violations.{site_of_body};
 ghost use Rattle.protobuf_parse_rules.specs.declared.rule.Rule.TheVariants as rule;
 
 use crate::alike::check_fields_alike;
 use crate::asking::any_asks;
 use crate::bars::{Bars, bars_of};
+use crate::bodies::{Body, bodies_of};
 use crate::claims::Holders;
 use crate::enums::check_enum;
 use crate::fields::{check_extensions, check_fields};
@@ -33,7 +34,6 @@ use crate::name_keys::names_are_apart;
 use crate::names::{Named, check_names, names_of};
 use crate::numbers::{check_numbers, numbers_are_apart};
 use crate::oneofs::check_oneofs;
-use crate::places::{Body, bodies_of};
 use crate::proto3::{ranges_kept, set_in_proto3};
 use crate::ranges::{check_extension_ranges, check_reserved_ranges};
 use crate::repeats::check_repeats;
@@ -130,7 +130,7 @@ fn violations_by<'a>(
     tables: &Tables<'a>,
     bodies: &'a [Body<'a>],
 ) -> Result<Vec<Violation>, AllocError>
-    ensures { IfOk result (λ v. (all : List Place) → Knows tables.now all →
+    ensures { IfOk result (λ v. (all : List BodyParts) → Knows tables.now all →
         breaches_told v ≡ breaches_after all [] (map body_view bodies.now)) }
 {
     let apart = numbers_are_apart(alloc, bodies)?;
@@ -147,7 +147,7 @@ fn violations_inside<'a>(
     tables: &Tables<'a>,
     bodies: &'a [Body<'a>],
 ) -> Result<Vec<Violation>, AllocError>
-    ensures { IfOk result (λ v. (all : List Place) → Knows tables.now all →
+    ensures { IfOk result (λ v. (all : List BodyParts) → Knows tables.now all →
         breaches_told v ≡ flat_map (breaches_inside all) (map body_view bodies.now)) }
 {
     let mut told = Vec::new(alloc);
@@ -162,7 +162,7 @@ fn violations_in<'a>(
     tables: &Tables<'a>,
     bodies: &'a [Body<'a>],
 ) -> Result<Vec<Violation>, AllocError>
-    ensures { IfOk result (λ v. (all : List Place) → Knows tables.now all →
+    ensures { IfOk result (λ v. (all : List BodyParts) → Knows tables.now all →
         breaches_told v ≡ breaches_after all [] (map body_view bodies.now)) }
 {
     let mut told = Vec::new(alloc);
@@ -181,7 +181,7 @@ fn check_body<'a>(
     tables: &Tables<'a>,
     body: &'a Body<'a>,
 ) -> Result<(), AllocError>
-    ensures { OnOk result ((all : List Place) → Knows tables.now all →
+    ensures { OnOk result ((all : List BodyParts) → Knows tables.now all →
         Checks all numbers.old numbers.new told.old told.new (body_view body.now ∷ [])) }
 {
     check_numbers(alloc, numbers, told, body)?;
@@ -195,7 +195,7 @@ fn check_inside<'a>(
     tables: &Tables<'a>,
     body: &'a Body<'a>,
 ) -> Result<(), AllocError>
-    ensures { OnOk result ((all : List Place) → Knows tables.now all →
+    ensures { OnOk result ((all : List BodyParts) → Knows tables.now all →
         breaches_told told.new ≡ breaches_told told.old
         ++ breaches_inside all (body_view body.now)) }
 {
@@ -210,7 +210,7 @@ fn check_barred<'a>(
     tables: &Tables<'a>,
     bars: &Bars<'a>,
 ) -> Result<(), AllocError>
-    ensures { OnOk result ((all : List Place) → Knows tables.now all →
+    ensures { OnOk result ((all : List BodyParts) → Knows tables.now all →
         breaches_told told.new ≡ breaches_told told.old
         ++ breaches_inside all (body_view bars.now.body.now)) }
 {
@@ -241,7 +241,7 @@ fn check_rest<'a>(
     tables: &Tables<'a>,
     bars: &Bars<'a>,
 ) -> Result<(), AllocError>
-    ensures { OnOk result ((all : List Place) → Knows tables.now all →
+    ensures { OnOk result ((all : List BodyParts) → Knows tables.now all →
         breaches_told told.new ≡ breaches_told told.old
         ++ breaches_in_rest all (body_view bars.now.body.now)) }
 {
@@ -257,7 +257,7 @@ fn check_own<'a>(
     tables: &Tables<'a>,
     bars: &Bars<'a>,
 ) -> Result<(), AllocError>
-    ensures { OnOk result ((all : List Place) → Knows tables.now all →
+    ensures { OnOk result ((all : List BodyParts) → Knows tables.now all →
         breaches_told told.new ≡ breaches_told told.old
         ++ own_breaches all (body_view bars.now.body.now)) }
 {
@@ -274,7 +274,7 @@ fn check_imports<'a>(
     tables: &Tables<'a>,
     body: &'a Body<'a>,
 ) -> Result<(), AllocError>
-    ensures { OnOk result ((all : List Place) → Knows tables.now all →
+    ensures { OnOk result ((all : List BodyParts) → Knows tables.now all →
         breaches_told told.new ≡ breaches_told told.old
         ++ imports_breaches all (body_view body.now)) }
 {
@@ -288,7 +288,7 @@ fn check_imported_twice(
     body: &Body<'_>,
 ) -> Result<(), AllocError>
     ensures { OnOk result (breaches_told told.new ≡ breaches_told told.old
-        ++ repeats rule.ImportedTwice (site_of_place (body_view body.now))
+        ++ repeats rule.ImportedTwice (site_of_body (body_view body.now))
         (imports_of (content_view body.now.holds))) }
 {
     let at = body.own_spot();
@@ -301,7 +301,7 @@ fn check_reserved_names(
     body: &Body<'_>,
 ) -> Result<(), AllocError>
     ensures { OnOk result (breaches_told told.new ≡ breaches_told told.old
-        ++ repeats rule.NameReservedTwice (site_of_place (body_view body.now))
+        ++ repeats rule.NameReservedTwice (site_of_body (body_view body.now))
         (reserved_names (content_view body.now.holds))) }
 {
     let at = body.own_spot();
@@ -316,7 +316,7 @@ fn check_reserved_names(
 
 fn check_itself(alloc: Global, told: &mut Vec<Violation>, body: &Body<'_>) -> Result<(), AllocError>
     ensures { OnOk result (breaches_told told.new ≡ breaches_told told.old
-        ++ breaches_at (site_of_place (body_view body.now))
+        ++ breaches_at (site_of_body (body_view body.now))
         (own_rules body.now.proto3 (content_view body.now.holds))) }
 {
     if !body.proto3 {

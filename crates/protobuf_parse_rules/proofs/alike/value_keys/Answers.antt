@@ -17,9 +17,9 @@ values-preserved c =
     let item = c.value-item.result in
     let v = enum_value_view item in (
       two_more front v c.as_str-name.result.now c.values.keys.items c.push.new.self.items
-          c.push-in-values.new.self.items c.plain_key.result c.plain_key-in-values.result
-          c.in_ok-push.ensures.items c.in_ok-push-2.ensures.items c.plain_key.ensures
-          c.plain_key-in-values.ensures c.as_str-name.ensures
+          c.push-in-values.new.self.items c.squeezed_key.result c.squeezed_key-in-values.result
+          c.in_ok-push.ensures.items c.in_ok-push-2.ensures.items c.squeezed_key.ensures
+          c.squeezed_key-in-values.ensures c.as_str-name.ensures
           ∙ ap (λ ks. ks ++ spelling_keys front v) c.values.invariant.0
           ∙ sym (joined_one_more (spelling_keys front) enum_value_view values i item
           c.values-test.true c.value-item.is),

@@ -3,17 +3,17 @@ use Rattle.std.proofs.Common.{string_bytes}
 use Rattle.std.proofs.lemmas.Result.{on_ok_weaker}
 use Rattle.protobuf_parse_rules.specs.Imports.{import_breaches}
 use Rattle.protobuf_parse_rules.specs.Marks.{Marks}
-use Rattle.protobuf_parse_rules.specs.Places.{body_view}
+use Rattle.protobuf_parse_rules.specs.Bodies.{body_view}
 use Rattle.protobuf_parse_rules.specs.Positions.{by_position}
 use Rattle.protobuf_parse_rules.specs.Rules.{breaches_told}
-use Rattle.protobuf_parse_rules.specs.Violations.{site_of_place}
+use Rattle.protobuf_parse_rules.specs.Violations.{site_of_body}
 use Rattle.protobuf_parse_rules.proofs.imports.check_file.Goals as goal
 
 pub returns : goal.returns
 returns c =
     let positions = c.args.file.now.public_dependency.items in
     let marks = c.in_ok-publics.publics in
-    let site = site_of_place (body_view c.args.body.now) in
+    let site = site_of_body (body_view c.args.body.now) in
     let are : Marks positions (length c.deref-3.result.now) c.deref-2.result.now =
     subst (λ (bs : List Bool). Marks positions (length c.deref-3.result.now) bs)
     (sym c.deref-2.ensures.value)

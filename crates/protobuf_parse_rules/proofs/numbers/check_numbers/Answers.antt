@@ -4,7 +4,7 @@ use Rattle.protobuf_parse_model.specs.Descriptors.{Text, FieldDescriptor, field_
 use Rattle.protobuf_parse_rules.specs.Claims.{Claim}
 use Rattle.protobuf_parse_rules.specs.ClaimsKept.{Claims}
 use Rattle.protobuf_parse_rules.specs.Numbers.{extension_claims, field_claims, number_rule}
-use Rattle.protobuf_parse_rules.specs.Places.{body_view, fields_of}
+use Rattle.protobuf_parse_rules.specs.Bodies.{body_view, fields_of}
 use Rattle.protobuf_parse_rules.proofs.Claiming.{claims_more}
 use Rattle.protobuf_parse_rules.proofs.numbers.check_numbers.Goals as goal
 

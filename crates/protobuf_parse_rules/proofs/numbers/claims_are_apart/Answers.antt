@@ -3,7 +3,7 @@ use Rattle.std.proofs.Math.Dec.{eqb}
 use Rattle.std.specs.List.{IsDistinct, flat_map}
 use Rattle.protobuf_parse_rules.specs.Keys.{claim_key}
 use Rattle.protobuf_parse_rules.specs.Numbers.{claims, number_rule}
-use Rattle.protobuf_parse_rules.specs.Places.{body_view}
+use Rattle.protobuf_parse_rules.specs.Bodies.{body_view}
 use Rattle.protobuf_parse_rules.proofs.Keying.{no_conflict}
 use Rattle.protobuf_parse_rules.proofs.Lists.{mapped_all}
 use Rattle.protobuf_parse_rules.proofs.numbers.claims_are_apart.Goals as goal

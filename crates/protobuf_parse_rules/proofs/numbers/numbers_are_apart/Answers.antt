@@ -1,7 +1,7 @@
 use Rattle.std.proofs.Common.{map, sym, ◌∙◌, subst}
 use Rattle.std.specs.List.{IsDistinct}
 use Rattle.std.proofs.Math.Dec.{eqb}
-use Rattle.protobuf_parse_rules.specs.Places.{body_view}
+use Rattle.protobuf_parse_rules.specs.Bodies.{body_view}
 use Rattle.protobuf_parse_rules.proofs.Rising.{rising_apart}
 use Rattle.protobuf_parse_rules.proofs.numbers.numbers_are_apart.Goals as goal
 

@@ -10,4 +10,4 @@ abbrev pub invariant-oneofs : goal.invariant-oneofs
 invariant-oneofs l = (held : List ℤ) → Marks held (length l.oneofs) l.marks →
     breaches_told l.told ≡ breaches_told l.fn.told
     ++ by_position (oneof_breaches l.body.file.now (string_bytes l.body.scope) held) 0
-    (map oneof_view (take l.place l.oneofs))
+    (map oneof_view (take l.position l.oneofs))

@@ -1,9 +1,9 @@
 use Rattle.std.proofs.Common.{◌≡◌, map, take}
 use Rattle.std.specs.List.{list_any}
-use Rattle.protobuf_parse_rules.specs.KnownFiles.{is_lite_place}
-use Rattle.protobuf_parse_rules.specs.Places.{body_view}
+use Rattle.protobuf_parse_rules.specs.KnownFiles.{is_lite_body}
+use Rattle.protobuf_parse_rules.specs.Bodies.{body_view}
 use Rattle.protobuf_parse_rules.proofs.runtimes.have_lite.Given as goal
 
 abbrev pub invariant-bodies : goal.invariant-bodies
 invariant-bodies l =
-    l.lite ≡ list_any is_lite_place (map body_view (take l.body-index l.bodies))
+    l.lite ≡ list_any is_lite_body (map body_view (take l.body-index l.bodies))

@@ -1,6 +1,6 @@
 use Rattle.std.proofs.Common.{[], map, ◌∙◌}
 use Rattle.std.proofs.lemmas.Result.{IfOk-weaker}
-use Rattle.protobuf_parse_rules.specs.Places.{body_view}
+use Rattle.protobuf_parse_rules.specs.Bodies.{body_view}
 use Rattle.protobuf_parse_rules.proofs.Walking.{inside_alone}
 use Rattle.protobuf_parse_rules.proofs.walk.violations_by.Goals as goal
 

@@ -1,5 +1,5 @@
 use Rattle.std.proofs.Common.{[], ◌++◌, List, map, take, sym, ap, ◌∙◌, subst}
-use Rattle.protobuf_parse_rules.specs.Places.{Place, body_view}
+use Rattle.protobuf_parse_rules.specs.Bodies.{BodyParts, body_view}
 use Rattle.protobuf_parse_rules.specs.Rules.{violation_view}
 use Rattle.protobuf_parse_rules.specs.Violations.{breaches_after}
 use Rattle.protobuf_parse_rules.specs.ClaimsKept.{Checks}
@@ -13,7 +13,7 @@ bodies-init c = λ all knows. checks_none all c.new-numbers.result c.new-told.re
 
 pub bodies-preserved : goal.bodies-preserved
 bodies-preserved c = λ all knows.
-    subst (λ (ps : List Place). Checks all c.new-numbers.result c.check_body.new.numbers
+    subst (λ (ps : List BodyParts). Checks all c.new-numbers.result c.check_body.new.numbers
     c.new-told.result c.check_body.new.told ps)
     (sym (mapped_one_more body_view c.args.bodies.now c.bodies.body-index c.body-item.result
     c.bodies-test.true c.body-item.is))

@@ -1,10 +1,10 @@
 use Rattle.std.proofs.Common.{List, map, take}
 use Rattle.protobuf_parse_rules.specs.KnownTables.{Knows}
-use Rattle.protobuf_parse_rules.specs.Places.{Place, body_view}
+use Rattle.protobuf_parse_rules.specs.Bodies.{BodyParts, body_view}
 use Rattle.protobuf_parse_rules.specs.ClaimsKept.{Checks}
 use Rattle.protobuf_parse_rules.proofs.walk.violations_in.Given as goal
 
 abbrev pub invariant-bodies : goal.invariant-bodies
-invariant-bodies l = (all : List Place) → Knows l.tables all →
+invariant-bodies l = (all : List BodyParts) → Knows l.tables all →
     Checks all l.initial.numbers l.numbers l.initial.told l.told
     (map body_view (take l.body-index l.bodies))

@@ -1,4 +1,4 @@
-use Rattle.protobuf_parse_rules.specs.Places.{content_view, extension_ranges}
+use Rattle.protobuf_parse_rules.specs.Bodies.{content_view, extension_ranges}
 use Rattle.protobuf_parse_rules.specs.Ranges.{in_range}
 use Rattle.protobuf_parse_rules.proofs.known.KnownMessage.keeps.Goals as goal
 

@@ -9,8 +9,8 @@ use Rattle.std.proofs.lemmas.Str.Ascii.{lowercase_ascii}
 use Rattle.std.specs.Char.{to_ascii_lowercase, encode_utf8}
 use Rattle.std.specs.List.{filter, fold}
 use Rattle.std.specs.Str.{chars, IsUtf8}
-use Rattle.protobuf_parse_rules.specs.Alike.{is_letter, lower, plain}
-use Rattle.protobuf_parse_rules.specs.Keys.{mixed, plain_mixed}
+use Rattle.protobuf_parse_rules.specs.Alike.{is_letter, lower, squeezed}
+use Rattle.protobuf_parse_rules.specs.Keys.{mixed, squeezed_mixed}
 
 -- the bytes in lower case without underscores
 abbrev pub letters : List ℕ → List ℕ
@@ -75,26 +75,26 @@ letters-encodes (c ∷ cs) =
           ]
     ]
 
-letters-text : (name : List ℕ) → IsUtf8 name → letters name ≡ encode_utf8_all (plain name)
+letters-text : (name : List ℕ) → IsUtf8 name → letters name ≡ encode_utf8_all (squeezed name)
 letters-text name utf8 =
     ap letters (sym (encodes-chars name utf8)) ∙ letters-encodes (chars name)
 
 -- ---- their key
 
-pub folded : (bs : List ℕ) (key : ℕ) → fold plain_mixed key bs ≡ fold mixed key (letters bs)
+pub folded : (bs : List ℕ) (key : ℕ) → fold squeezed_mixed key bs ≡ fold mixed key (letters bs)
 folded [] key = refl
 folded (b ∷ bs) key =
     elim (cases_Bool (b == 95)) [
       | inl underscore ↦
-          ap (λ k. fold plain_mixed k bs) (cond-true (b == 95) _ _ underscore)
+          ap (λ k. fold squeezed_mixed k bs) (cond-true (b == 95) _ _ underscore)
           ∙ (folded bs key
           ∙ ap (fold mixed key) (sym (letters-underscore b bs underscore)))
       | inr other ↦
-          ap (λ k. fold plain_mixed k bs) (cond-false (b == 95) _ _ other)
+          ap (λ k. fold squeezed_mixed k bs) (cond-false (b == 95) _ _ other)
           ∙ (folded bs (mixed key (to_ascii_lowercase b))
           ∙ ap (fold mixed key) (sym (letters-letter b bs other)))
     ]
 
-pub plain_folded : (name : List ℕ) (key : ℕ) → IsUtf8 name
-    → fold plain_mixed key name ≡ fold mixed key (encode_utf8_all (plain name))
-plain_folded name key utf8 = folded name key ∙ ap (fold mixed key) (letters-text name utf8)
+pub squeezed_folded : (name : List ℕ) (key : ℕ) → IsUtf8 name
+    → fold squeezed_mixed key name ≡ fold mixed key (encode_utf8_all (squeezed name))
+squeezed_folded name key utf8 = folded name key ∙ ap (fold mixed key) (letters-text name utf8)

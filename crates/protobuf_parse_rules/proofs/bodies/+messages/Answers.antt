@@ -7,10 +7,10 @@ use Rattle.protobuf_parse_model.specs.declared.descriptor.DescriptorProto.{Descr
 use Rattle.protobuf_parse_model.specs.declared.descriptor.DescriptorProto.{out-DescriptorProto}
 use Rattle.protobuf_parse_model.specs.Descriptors.{Text, message_parts, message_view}
 use Rattle.protobuf_parse_wire.specs.Declarations.{Declaration, declared_message, name_within}
-use Rattle.protobuf_parse_rules.specs.Places.{Place, body_view, message_place}
+use Rattle.protobuf_parse_rules.specs.Bodies.{BodyParts, body_view, message_body}
 use Rattle.protobuf_parse_rules.proofs.Lists.{joined_one_more}
-use Rattle.protobuf_parse_rules.proofs.Placing.{message_declared, places_more}
-use Rattle.protobuf_parse_rules.proofs.places.+messages.Goals as goal
+use Rattle.protobuf_parse_rules.proofs.Placing.{message_declared, bodies_more}
+use Rattle.protobuf_parse_rules.proofs.bodies.+messages.Goals as goal
 
 pub add_message-returns-then-is_empty : goal.add_message-returns-then-is_empty
 add_message-returns-then-is_empty t c =
@@ -18,13 +18,13 @@ add_message-returns-then-is_empty t c =
     let path : Text = c.args.path.now in
     let proto3 = c.args.proto3 in
     let name : Text = string_bytes c.in_ok-name.name in
-    let old : List Place = map body_view c.args.bodies.now.items in
+    let old : List BodyParts = map body_view c.args.bodies.now.items in
     let d : Declaration = record { name = name; parts = message_parts m } in
     let none : (out-DescriptorProto m).nested_type.items ≡ [] =
     nil_from_length _ (grind (arith, nat_tests, c.is_empty.ensures, c.if-is_empty.true)) in
     on_ok_weaker c.add_one.result
     (λ added. added
-    ∙ ap (λ (ds : List Declaration). old ++ map (message_place path proto3) ds)
+    ∙ ap (λ (ds : List Declaration). old ++ map (message_body path proto3) ds)
     (sym (message_declared c.args.scope.now name m
     (c.in_ok-name.ensures ∙ ap (name_within c.args.scope.now) c.deref.ensures)
     ∙ ap (λ (ms : List DescriptorProto). d ∷ flat_map (declared_message name) (map message_view ms))
@@ -37,20 +37,20 @@ add_message-returns t c =
     let path : Text = c.args.path.now in
     let proto3 = c.args.proto3 in
     let name : Text = string_bytes c.in_ok-name.name in
-    let old : List Place = map body_view c.args.bodies.now.items in
-    let mid : List Place = map body_view c.add_one-2.new.bodies.items in
-    let new : List Place = map body_view c.add_messages.new.bodies.items in
+    let old : List BodyParts = map body_view c.args.bodies.now.items in
+    let mid : List BodyParts = map body_view c.add_one-2.new.bodies.items in
+    let new : List BodyParts = map body_view c.add_messages.new.bodies.items in
     let d : Declaration = record { name = name; parts = message_parts m } in
     let inner = flat_map (declared_message name)
     (map message_view (out-DescriptorProto m).nested_type.items) in
-    let pushed : mid ≡ old ++ map (message_place path proto3) (d ∷ []) =
+    let pushed : mid ≡ old ++ map (message_body path proto3) (d ∷ []) =
     c.in_ok-add_one.ensures
-    ∙ ap (λ (s : Text). old ++ map (message_place path proto3)
+    ∙ ap (λ (s : Text). old ++ map (message_body path proto3)
     (record { name = s; parts = message_parts m } ∷ [])) c.in_ok-clone.ensures.cases in
     on_ok_weaker c.add_messages.result
-    (λ nested. places_more path proto3 old mid new (d ∷ []) inner
+    (λ nested. bodies_more path proto3 old mid new (d ∷ []) inner
     (declared_message c.args.scope.now (message_view m)) pushed
-    (nested ∙ ap (λ (ds : List Declaration). mid ++ map (message_place path proto3) ds)
+    (nested ∙ ap (λ (ds : List Declaration). mid ++ map (message_body path proto3) ds)
     (ap (λ (s : Text). flat_map (declared_message s) (map message_view c.deref-3.result.now))
     c.deref-2.ensures
     ∙ ap (λ (ms : List DescriptorProto). flat_map (declared_message name) (map message_view ms))
@@ -61,6 +61,7 @@ add_message-returns t c =
 
 pub add_messages-messages-preserved : goal.add_messages-messages-preserved
 add_messages-messages-preserved t c =
-    places_more c.args.path.now c.args.proto3 _ _ _ _ _ _ c.messages.invariant c.in_ok-add_message.ensures
+    bodies_more c.args.path.now c.args.proto3 _ _ _ _ _ _ c.messages.invariant
+    c.in_ok-add_message.ensures
     (joined_one_more (declared_message c.args.scope.now) message_view c.args.messages.now
     c.messages.message-index c.message-item.result c.messages-test.true c.message-item.is)

@@ -9,12 +9,12 @@ ghost use Rattle.protobuf_parse_model.specs.Descriptors.{reserved_range_view, se
 ghost use Rattle.protobuf_parse_wire.specs.Declarations.{declared_message, name_within};
 ghost use Rattle.protobuf_parse_rules.specs.ClaimsKept.{holder_view};
 ghost use Rattle.protobuf_parse_rules.specs.Findings.{site_of};
-ghost use Rattle.protobuf_parse_rules.specs.Places.{body_view, content_view, enums_of};
-ghost use Rattle.protobuf_parse_rules.specs.Places.{extension_ranges, extensions_of};
-ghost use Rattle.protobuf_parse_rules.specs.Places.{fields_of, file_path};
-ghost use Rattle.protobuf_parse_rules.specs.Places.{imports_of, is_proto3, message_place, places};
-ghost use Rattle.protobuf_parse_rules.specs.Places.{reserved_names};
-ghost use Rattle.protobuf_parse_rules.specs.Places.{reserved_ranges, services_of};
+ghost use Rattle.protobuf_parse_rules.specs.Bodies.{body_view, content_view, enums_of};
+ghost use Rattle.protobuf_parse_rules.specs.Bodies.{extension_ranges, extensions_of};
+ghost use Rattle.protobuf_parse_rules.specs.Bodies.{fields_of, file_path};
+ghost use Rattle.protobuf_parse_rules.specs.Bodies.{imports_of, is_proto3, message_body, bodies_in};
+ghost use Rattle.protobuf_parse_rules.specs.Bodies.{reserved_names};
+ghost use Rattle.protobuf_parse_rules.specs.Bodies.{reserved_ranges, services_of};
 
 use crate::claims::Holder;
 use crate::finding::Spot;
@@ -182,7 +182,8 @@ pub fn bodies_of<'a>(
     alloc: Global,
     files: &'a [FileDescriptorProto],
 ) -> Result<Vec<Body<'a>>, AllocError>
-    ensures { IfOk result (λ v. map body_view v.items ≡ flat_map places (map file_view files.now)) }
+    ensures { IfOk result
+        (λ v. map body_view v.items ≡ flat_map bodies_in (map file_view files.now)) }
 {
     let mut bodies = Vec::new(alloc);
     'files: for file in files {
@@ -197,7 +198,7 @@ fn add_file<'a>(
     file: &'a FileDescriptorProto,
 ) -> Result<(), AllocError>
     ensures { OnOk result (map body_view bodies.new.items
-        ≡ map body_view bodies.old.items ++ places (file_view file.now)) }
+        ≡ map body_view bodies.old.items ++ bodies_in (file_view file.now)) }
 {
     let path = path_of(file);
     let proto3 = is_proto3(file);
@@ -240,7 +241,7 @@ fn add_messages<'a>(
     messages: &'a [DescriptorProto],
 ) -> Result<(), AllocError>
     ensures { OnOk result (map body_view bodies.new.items ≡ map body_view bodies.old.items
-        ++ map (message_place path.now proto3)
+        ++ map (message_body path.now proto3)
         (flat_map (declared_message scope.now) (map message_view messages.now))) }
 {
     'messages: for message in messages {
@@ -259,7 +260,7 @@ fn add_message<'a>(
     message: &'a DescriptorProto,
 ) -> Result<(), AllocError>
     ensures { OnOk result (map body_view bodies.new.items ≡ map body_view bodies.old.items
-        ++ map (message_place path.now proto3)
+        ++ map (message_body path.now proto3)
         (declared_message scope.now (message_view message.now))) }
 {
     let name = name_within(alloc, scope, &message.name)?;
@@ -279,7 +280,7 @@ fn add_one<'a>(
     message: &'a DescriptorProto,
 ) -> Result<(), AllocError>
     ensures { OnOk result (map body_view bodies.new.items ≡ map body_view bodies.old.items
-        ++ map (message_place path.now proto3) (record {
+        ++ map (message_body path.now proto3) (record {
           name = string_bytes name;
           parts = message_parts message.now;
         } ∷ [])) }

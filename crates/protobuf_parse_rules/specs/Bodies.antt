@@ -6,9 +6,9 @@ use Rattle.protobuf_parse_model.specs.Descriptors.{EnumDescriptor, MessageParts,
 use Rattle.protobuf_parse_model.specs.Descriptors.{ServiceDescriptor, file_view, message_parts}
 use Rattle.protobuf_parse_wire.specs.Declarations.{Declaration, messages_declared_in}
 use Rattle.protobuf_parse_wire.specs.Declarations.{package_scope}
-use Rattle.protobuf_parse_rules.specs.declared.places.Body.{Body}
-use Rattle.protobuf_parse_rules.specs.declared.places.Holds.{Holds}
-use Rattle.protobuf_parse_rules.specs.declared.places.Holds.TheVariants as holds
+use Rattle.protobuf_parse_rules.specs.declared.bodies.Body.{Body}
+use Rattle.protobuf_parse_rules.specs.declared.bodies.Holds.{Holds}
+use Rattle.protobuf_parse_rules.specs.declared.bodies.Holds.TheVariants as holds
 
 -- what stands there: what a message has, or what a file has
 pub data Content : Type 0 where
@@ -16,7 +16,7 @@ pub data Content : Type 0 where
   of_file : FileDescriptor → Content
 
 -- the path of the file, the scope of what stands there, and what stands there
-pub record Place : Type 0 where
+pub record BodyParts : Type 0 where
   pub file : Text
   pub proto3 : Bool
   pub scope : Text
@@ -62,8 +62,8 @@ abbrev pub is_proto3 : FileDescriptor → Bool
 is_proto3 file = bytes_eq (unwrap_or file.syntax []) (codes "proto3")
 
 -- a message of the file with that path
-abbrev pub message_place : (path : Text) → (proto3 : Bool) → Declaration → Place
-message_place path proto3 d = record {
+abbrev pub message_body : (path : Text) → (proto3 : Bool) → Declaration → BodyParts
+message_body path proto3 d = record {
   file = path;
   proto3 = proto3;
   scope = d.name;
@@ -71,8 +71,8 @@ message_place path proto3 d = record {
 }
 
 -- outside of the file's messages
-abbrev pub outer_place : FileDescriptor → Place
-outer_place file = record {
+abbrev pub outer_body : FileDescriptor → BodyParts
+outer_body file = record {
   file = file_path file;
   proto3 = is_proto3 file;
   scope = package_scope file.«package»;
@@ -80,16 +80,16 @@ outer_place file = record {
 }
 
 -- the messages of a file in the order of declaration, each before those inside it; then the file
-abbrev pub places : FileDescriptor → List Place
-places file =
-    map (message_place (file_path file) (is_proto3 file)) (messages_declared_in file)
-    ++ outer_place file ∷ []
+abbrev pub bodies_in : FileDescriptor → List BodyParts
+bodies_in file =
+    map (message_body (file_path file) (is_proto3 file)) (messages_declared_in file)
+    ++ outer_body file ∷ []
 
 abbrev pub content_view : Holds → Content
 content_view (holds.Message m) = of_message (message_parts m.now)
 content_view (holds.File f) = of_file (file_view f.now)
 
-abbrev pub body_view : Body → Place
+abbrev pub body_view : Body → BodyParts
 body_view b = record {
   file = b.file.now;
   proto3 = b.proto3;

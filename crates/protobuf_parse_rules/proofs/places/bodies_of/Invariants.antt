@@ -1,9 +1,0 @@
-use Rattle.std.proofs.Common.{◌≡◌, map, take}
-use Rattle.std.specs.List.{flat_map}
-use Rattle.protobuf_parse_model.specs.Descriptors.{file_view}
-use Rattle.protobuf_parse_rules.specs.Places.{body_view, places}
-use Rattle.protobuf_parse_rules.proofs.places.bodies_of.Given as goal
-
-abbrev pub invariant-files : goal.invariant-files
-invariant-files l =
-    map body_view l.bodies.items ≡ flat_map places (map file_view (take l.file-index l.files))
