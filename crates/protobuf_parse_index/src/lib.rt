@@ -8,9 +8,8 @@ mod names;
 mod numbers;
 mod options;
 mod walk;
-mod words;
 
 pub use declared::Declared;
 pub use index::Index;
 pub use options::{NamedOption, custom_options};
-pub use words::{label_word, type_word};
+pub use protobuf_parse_model::{label_word, type_word};

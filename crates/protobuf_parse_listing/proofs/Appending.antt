@@ -40,13 +40,13 @@ pub appended_three : (t a b c : List ℕ) {u v w : List ℕ} → u ≡ t ++ a �
 appended_three t a b c p q r = rw (r, q, p) (simp append_assoc refl)
 
 -- a line of two parts
-pub appended_line : (t blanks a b : List ℕ) {u v w : List ℕ} → u ≡ t ++ blanks ++ a → v ≡ u ++ b
+pub appended_line : (t blanks a b : List ℕ) {u v w : List ℕ} → u ≡ t ++ (blanks ++ a) → v ≡ u ++ b
     → w ≡ v ++ 10 ∷ [] → w ≡ t ++ (blanks ++ (a ++ b) ++ 10 ∷ [])
 appended_line t blanks a b p q r = rw (r, q, p) (simp append_assoc refl)
 
 -- a line that begins with some words and a label, and the lines below it
 pub appended_labelled : (t blanks front label after below : List ℕ) {u v w words : List ℕ}
-    → words ≡ label ++ after → u ≡ t ++ blanks ++ (front ++ label) → v ≡ u ++ (after ++ 10 ∷ [])
+    → words ≡ label ++ after → u ≡ t ++ (blanks ++ (front ++ label)) → v ≡ u ++ (after ++ 10 ∷ [])
     → w ≡ v ++ below → w ≡ t ++ (blanks ++ (front ++ words) ++ 10 ∷ [] ++ below)
 appended_labelled t blanks front label after below e p q r =
     rw (r, q, p, e) (simp append_assoc refl)

@@ -1,4 +1,4 @@
 pub mod Appending
 pub mod OptionLines
-pub mod PlainRuns
+pub mod UnescapedRuns
 pub mod Quoting

@@ -5,10 +5,11 @@ use Rattle.std.proofs.Common.{ap₂, ◌∙◌, append-nil}
 use Rattle.std.proofs.lemmas.List.Concat.{flat_map-append}
 use Rattle.protobuf_parse_syntax.specs.Trees.{ConstantSyntax, integer, truth, dotted, string, list}
 use Rattle.protobuf_parse_syntax.specs.Trees.{fields, OptionSyntax}
-use Rattle.protobuf_parse_model.specs.BuiltinOptions.{Words, words_of, word_said, set_by}
-use Rattle.protobuf_parse_model.specs.BuiltinOptions.{truth_option, word_option, last_value}
-use Rattle.protobuf_parse_model.specs.BuiltinOptions.{optimize_modes, c_types, js_types}
-use Rattle.protobuf_parse_model.specs.BuiltinOptions.{idempotency_levels}
+use Rattle.protobuf_parse_model.specs.BuiltinOptions.{word_said, set_by, truth_option}
+use Rattle.protobuf_parse_model.specs.BuiltinOptions.{word_option, last_value}
+use Rattle.protobuf_parse_model.specs.Words.{Words, words_of, optimize_modes, c_types, js_types}
+use Rattle.protobuf_parse_model.specs.Words.{idempotency_levels, optimize_mode_word, c_type_word}
+use Rattle.protobuf_parse_model.specs.Words.{js_type_word, idempotency_level_word}
 use Rattle.protobuf_parse_model.specs.BuiltinOptions.{file_table, message_table, field_table}
 use Rattle.protobuf_parse_model.specs.BuiltinOptions.{oneof_table, enum_table, enum_value_table}
 use Rattle.protobuf_parse_model.specs.BuiltinOptions.{service_table, method_table}
@@ -22,9 +23,7 @@ use Rattle.protobuf_parse_model.specs.OptionMessages.{oneof_options, enum_option
 use Rattle.protobuf_parse_model.specs.OptionMessages.{enum_value_options}
 use Rattle.protobuf_parse_model.specs.OptionMessages.{service_options, method_options}
 use Rattle.protobuf_parse_listing.specs.Listing.{Setting, setting_line, setting_lines, custom_line}
-use Rattle.protobuf_parse_listing.specs.Listing.{truth_setting, optimize_for_word, ctype_word}
-use Rattle.protobuf_parse_listing.specs.Listing.{jstype_word}
-use Rattle.protobuf_parse_listing.specs.Listing.{idempotency_level_word, file_option_lines}
+use Rattle.protobuf_parse_listing.specs.Listing.{truth_setting, file_option_lines}
 use Rattle.protobuf_parse_listing.specs.Listing.{message_option_lines, field_option_lines}
 use Rattle.protobuf_parse_listing.specs.Listing.{oneof_option_lines, enum_option_lines}
 use Rattle.protobuf_parse_listing.specs.Listing.{enum_value_option_lines, service_option_lines}
@@ -101,12 +100,12 @@ file_lines_are level custom (o ∷ os) =
     let said : List Setting = settings_said file_table file_numbers (o ∷ os) in
     let with : Option Text → List Setting =
     λ w. take 2 said ++ (codes "optimize_for", w) ∷ drop 3 said in
-    let mode : Option Text = option_map optimize_for_word
+    let mode : Option Text = option_map optimize_mode_word
     (word_option optimize_modes (o ∷ os) (codes "optimize_for")) in
     three_parts level (take 5 (with mode)) (take 7 (drop 5 (with mode))) (drop 12 (with mode))
     (custom_line level custom)
     ∙ same_lines level custom (with mode) said
-    (ap with (word_prints optimize_for_word optimize_modes refl
+    (ap with (word_prints optimize_mode_word optimize_modes refl
     (last_value (codes "optimize_for") (o ∷ os))))
 
 pub message_lines_are : (level : ℕ) (custom : Text) (os : List OptionSyntax)
@@ -126,8 +125,8 @@ field_lines_are level custom (o ∷ os) =
     same_lines level custom _ _
     (ap₂ (λ (c j : Option Text). (codes "ctype", c) ∷ take 3 (drop 1 said)
     ++ (codes "jstype", j) ∷ drop 5 said)
-    (word_prints ctype_word c_types refl (last_value (codes "ctype") (o ∷ os)))
-    (word_prints jstype_word js_types refl (last_value (codes "jstype") (o ∷ os))))
+    (word_prints c_type_word c_types refl (last_value (codes "ctype") (o ∷ os)))
+    (word_prints js_type_word js_types refl (last_value (codes "jstype") (o ∷ os))))
 
 pub oneof_lines_are : (level : ℕ) (custom : Text) (os : List OptionSyntax)
     → oneof_option_lines level (oneof_options custom os)

@@ -2,4 +2,5 @@ pub mod Listing
 pub mod Settings
 pub mod ListedOptions
 pub mod Parts
-pub mod Plain
+pub mod Puts
+pub mod Unescaped

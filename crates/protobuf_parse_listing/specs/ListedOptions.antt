@@ -4,9 +4,9 @@ use Rattle.std.specs.Prelude.{◌≡◌, ℕ, List, [], ◌∷◌, ◌++◌, map
 use Rattle.std.specs.Prelude.{option_map}
 use Rattle.protobuf_parse_syntax.specs.Trees.{ConstantSyntax, dotted, OptionSyntax}
 use Rattle.protobuf_parse_model.specs.BuiltinOptions.{BuiltinKind, a_text, a_truth, a_word, Table}
-use Rattle.protobuf_parse_model.specs.BuiltinOptions.{words_of, last_value, set_by}
-use Rattle.protobuf_parse_model.specs.BuiltinOptions.{text_said, truth_said, optimize_modes}
-use Rattle.protobuf_parse_model.specs.BuiltinOptions.{c_types, js_types, idempotency_levels}
+use Rattle.protobuf_parse_model.specs.BuiltinOptions.{last_value, set_by, text_said, truth_said}
+use Rattle.protobuf_parse_model.specs.Words.{words_of, optimize_modes, c_types, js_types}
+use Rattle.protobuf_parse_model.specs.Words.{idempotency_levels}
 use Rattle.protobuf_parse_model.specs.Descriptors.{Text}
 use Rattle.protobuf_parse_model.specs.OptionNumbers.{Numbers, AreNumbered, in_order}
 use Rattle.protobuf_parse_model.specs.OptionNumbers.{optimize_mode_numbers, c_type_numbers}

@@ -6,25 +6,10 @@ use Rattle.std.specs.Fmt.{signed_decimal}
 use Rattle.hex.specs.Hex.{encode_lower}
 use Rattle.protobuf_parse_base.specs.Characters as char
 use Rattle.protobuf_parse_base.specs.Escapes.{escaped_bytes}
-use Rattle.protobuf_parse_syntax.specs.declared.tree.field.Label.{Label}
-use Rattle.protobuf_parse_syntax.specs.declared.tree.field.Label.TheVariants.{Optional, Required}
-use Rattle.protobuf_parse_syntax.specs.declared.tree.field.Label.TheVariants.{Repeated}
 use Rattle.protobuf_parse_model.specs.declared.descriptor.FieldType.{FieldType}
 use Rattle.protobuf_parse_model.specs.declared.descriptor.FieldType.TheVariants as kind
-use Rattle.protobuf_parse_model.specs.declared.descriptor.options.OptimizeMode.{OptimizeMode}
-use Rattle.protobuf_parse_model.specs.declared.descriptor.options.OptimizeMode.TheVariants.{Speed}
-use Rattle.protobuf_parse_model.specs.declared.descriptor.options.OptimizeMode.TheVariants.{CodeSize}
-use Rattle.protobuf_parse_model.specs.declared.descriptor.options.OptimizeMode.TheVariants.{LiteRuntime}
-use Rattle.protobuf_parse_model.specs.declared.descriptor.options.CType.{CType}
-use Rattle.protobuf_parse_model.specs.declared.descriptor.options.CType.TheVariants as ctype
-use Rattle.protobuf_parse_model.specs.declared.descriptor.options.JSType.{JSType}
-use Rattle.protobuf_parse_model.specs.declared.descriptor.options.JSType.TheVariants.{JsNormal}
-use Rattle.protobuf_parse_model.specs.declared.descriptor.options.JSType.TheVariants.{JsString}
-use Rattle.protobuf_parse_model.specs.declared.descriptor.options.JSType.TheVariants.{JsNumber}
-use Rattle.protobuf_parse_model.specs.declared.descriptor.options.IdempotencyLevel.{IdempotencyLevel}
-use Rattle.protobuf_parse_model.specs.declared.descriptor.options.IdempotencyLevel.TheVariants.{IdempotencyUnknown}
-use Rattle.protobuf_parse_model.specs.declared.descriptor.options.IdempotencyLevel.TheVariants.{NoSideEffects}
-use Rattle.protobuf_parse_model.specs.declared.descriptor.options.IdempotencyLevel.TheVariants.{Idempotent}
+use Rattle.protobuf_parse_model.specs.Words.{label_word, type_word, optimize_mode_word}
+use Rattle.protobuf_parse_model.specs.Words.{c_type_word, js_type_word, idempotency_level_word}
 use Rattle.protobuf_parse_model.specs.Options.{FileOptionValues, MessageOptionValues}
 use Rattle.protobuf_parse_model.specs.Options.{FieldOptionValues}
 use Rattle.protobuf_parse_model.specs.Options.{OneofOptionValues, EnumOptionValues}
@@ -72,48 +57,18 @@ abbrev pub listed_truth : Bool → Text
 listed_truth true = codes "true"
 listed_truth false = codes "false"
 
-abbrev pub optimize_for_word : OptimizeMode → Text
-optimize_for_word Speed = codes "SPEED"
-optimize_for_word CodeSize = codes "CODE_SIZE"
-optimize_for_word LiteRuntime = codes "LITE_RUNTIME"
-
-abbrev pub ctype_word : CType → Text
-ctype_word ctype.String = codes "STRING"
-ctype_word ctype.Cord = codes "CORD"
-ctype_word ctype.StringPiece = codes "STRING_PIECE"
-
-abbrev pub jstype_word : JSType → Text
-jstype_word JsNormal = codes "JS_NORMAL"
-jstype_word JsString = codes "JS_STRING"
-jstype_word JsNumber = codes "JS_NUMBER"
-
-abbrev pub idempotency_level_word : IdempotencyLevel → Text
-idempotency_level_word IdempotencyUnknown = codes "IDEMPOTENCY_UNKNOWN"
-idempotency_level_word NoSideEffects = codes "NO_SIDE_EFFECTS"
-idempotency_level_word Idempotent = codes "IDEMPOTENT"
-
 -- an option's name, and the words of its value where it is set
 abbrev pub Setting : Type 0
 Setting = Text × Option Text
 
+abbrev pub setting : {A : Type 0} → (A → Text) → Text → Option A → Setting
+setting words name value = (name, option_map words value)
+
 abbrev pub text_setting : Text → Option Text → Setting
-text_setting name value = (name, option_map quoted value)
+text_setting = setting quoted
 
 abbrev pub truth_setting : Text → Option Bool → Setting
-truth_setting name value = (name, option_map listed_truth value)
-
-abbrev pub optimize_for_setting : Option OptimizeMode → Setting
-optimize_for_setting value = (codes "optimize_for", option_map optimize_for_word value)
-
-abbrev pub ctype_setting : Option CType → Setting
-ctype_setting value = (codes "ctype", option_map ctype_word value)
-
-abbrev pub jstype_setting : Option JSType → Setting
-jstype_setting value = (codes "jstype", option_map jstype_word value)
-
-abbrev pub idempotency_level_setting : Option IdempotencyLevel → Setting
-idempotency_level_setting value =
-    (codes "idempotency_level", option_map idempotency_level_word value)
+truth_setting = setting listed_truth
 
 abbrev pub value_line : ℕ → Text → Option Text → Text
 value_line level name None = []
@@ -135,7 +90,7 @@ abbrev pub first_file_settings : FileOptionValues → List Setting
 first_file_settings o =
     text_setting (codes "java_package") o.java_package
     ∷ text_setting (codes "java_outer_classname") o.java_outer_classname
-    ∷ optimize_for_setting o.optimize_for
+    ∷ setting optimize_mode_word (codes "optimize_for") o.optimize_for
     ∷ truth_setting (codes "java_multiple_files") o.java_multiple_files
     ∷ text_setting (codes "go_package") o.go_package
     ∷ []
@@ -174,11 +129,11 @@ message_settings o =
 
 abbrev pub field_settings : FieldOptionValues → List Setting
 field_settings o =
-    ctype_setting o.ctype
+    setting c_type_word (codes "ctype") o.ctype
     ∷ truth_setting (codes "packed") o.packed
     ∷ truth_setting (codes "deprecated") o.deprecated
     ∷ truth_setting (codes "lazy") o.lazy
-    ∷ jstype_setting o.jstype
+    ∷ setting js_type_word (codes "jstype") o.jstype
     ∷ truth_setting (codes "weak") o.weak
     ∷ truth_setting (codes "unverified_lazy") o.unverified_lazy
     ∷ truth_setting (codes "debug_redact") o.debug_redact
@@ -190,7 +145,7 @@ enum_settings o = truth_setting (codes "allow_alias") o.allow_alias
 
 abbrev pub method_settings : MethodOptionValues → List Setting
 method_settings o = truth_setting (codes "deprecated") o.deprecated
-    ∷ idempotency_level_setting o.idempotency_level ∷ []
+    ∷ setting idempotency_level_word (codes "idempotency_level") o.idempotency_level ∷ []
 
 unfoldable pub file_option_lines : ℕ → Option FileOptionValues → Text
 file_option_lines level None = []
@@ -235,31 +190,6 @@ method_option_lines level (Some o) = setting_lines level (method_settings o)
     ++ custom_line level o.custom
 
 -- ---- fields
-
-abbrev pub label_word : Label → Text
-label_word Optional = codes "optional"
-label_word Required = codes "required"
-label_word Repeated = codes "repeated"
-
-abbrev pub type_word : FieldType → Text
-type_word kind.Int32 = codes "int32"
-type_word kind.Int64 = codes "int64"
-type_word kind.Uint32 = codes "uint32"
-type_word kind.Uint64 = codes "uint64"
-type_word kind.Sint32 = codes "sint32"
-type_word kind.Sint64 = codes "sint64"
-type_word kind.Fixed32 = codes "fixed32"
-type_word kind.Sfixed32 = codes "sfixed32"
-type_word kind.Fixed64 = codes "fixed64"
-type_word kind.Sfixed64 = codes "sfixed64"
-type_word kind.Bool = codes "bool"
-type_word kind.String = codes "string"
-type_word kind.Bytes = codes "bytes"
-type_word kind.Float = codes "float"
-type_word kind.Double = codes "double"
-type_word kind.Message = codes "message"
-type_word kind.Enum = codes "enum"
-type_word kind.Group = codes "group"
 
 -- whether the type is declared elsewhere, and prints with its name
 abbrev pub is_named : FieldType → Bool

@@ -10,11 +10,10 @@ use Rattle.protobuf_parse_model.specs.Descriptors.{message_parts, message_view}
 use Rattle.protobuf_parse_model.proofs.Levels.{message_view_is}
 use Rattle.protobuf_parse_model.specs.declared.descriptor.DescriptorProto.{DescriptorProto}
 use Rattle.protobuf_parse_model.specs.declared.descriptor.DescriptorProto.{out-DescriptorProto}
-use Rattle.protobuf_parse_listing.specs.Listing.{field_back, field_front, field_words}
-use Rattle.protobuf_parse_listing.specs.Listing.{label_word, type_words}
+use Rattle.protobuf_parse_model.specs.Words.{label_word}
+use Rattle.protobuf_parse_listing.specs.Listing.{field_back, field_front, field_words, type_words}
 use Rattle.protobuf_parse_listing.specs.Listing.{line, message_lines, all_message_lines}
-use Rattle.protobuf_parse_listing.specs.Listing.{message_front}
-use Rattle.protobuf_parse_listing.specs.Listing.{message_middle, message_back}
+use Rattle.protobuf_parse_listing.specs.Listing.{message_front, message_middle, message_back}
 
 pub all_message_lines_is : (level : ℕ) (ms : List MessageDescriptor)
     → all_message_lines level (messages_of_list ms) ≡ flat_map (message_lines level) ms

@@ -1,6 +1,6 @@
 //! The lines of files, messages, enums and services.
 
-ghost use Rattle.std.specs.Prelude.{◌≡◌, ℕ, ◌+◌, ◌++◌, IfOk, OnOk, codes, flat_map, map};
+ghost use Rattle.std.specs.Prelude.{◌≡◌, ℕ, ◌+◌, ◌++◌, IfOk, codes, flat_map, map};
 ghost use Rattle.std.specs.Ordering.{nat_cmp};
 ghost use Rattle.std.specs.BTreeSet.{contains};
 ghost use Rattle.std.specs.String.{string_bytes};
@@ -10,6 +10,7 @@ ghost use Rattle.protobuf_parse_model.specs.Descriptors.{file_view, message_part
 ghost use Rattle.protobuf_parse_model.specs.Descriptors.{method_view, oneof_view};
 ghost use Rattle.protobuf_parse_model.specs.Descriptors.{reserved_range_view, service_view};
 ghost use Rattle.protobuf_parse_listing.specs.Listing as spec;
+ghost use Rattle.protobuf_parse_listing.specs.Puts.{Puts};
 
 use crate::fields::{put_extensions, put_fields, put_words_if};
 use crate::pieces::{
@@ -34,8 +35,7 @@ pub fn put_file(
     text: &mut String,
     file: &FileDescriptorProto,
 ) -> Result<(), AllocError>
-    ensures { OnOk result
-        (string_bytes text.new ≡ string_bytes text.old ++ spec.file_lines (file_view file.now)) }
+    ensures { Puts result text.old text.new (spec.file_lines (file_view file.now)) }
 {
     put_file_front(alloc, text, file)?;
     put_file_options(alloc, text, 1, &file.options)?;
@@ -49,8 +49,7 @@ fn put_file_front(
     text: &mut String,
     file: &FileDescriptorProto,
 ) -> Result<(), AllocError>
-    ensures { OnOk result
-        (string_bytes text.new ≡ string_bytes text.old ++ spec.file_front (file_view file.now)) }
+    ensures { Puts result text.old text.new (spec.file_front (file_view file.now)) }
 {
     put_optional_line(text, 0, "file ", &file.name)?;
     put_optional_line(text, 1, "syntax ", &file.syntax)?;
@@ -71,9 +70,8 @@ fn put_imports(
     public: &[i32],
     weak: &[i32],
 ) -> Result<(), AllocError>
-    ensures { OnOk result
-        (string_bytes text.new ≡ string_bytes text.old
-        ++ spec.import_lines public.now weak.now 0 (map string_bytes paths.now)) }
+    ensures { Puts result text.old text.new
+        (spec.import_lines public.now weak.now 0 (map string_bytes paths.now)) }
 {
     let public = positions(alloc, public)?;
     let weak = positions(alloc, weak)?;
@@ -130,8 +128,7 @@ fn put_file_back(
     text: &mut String,
     file: &FileDescriptorProto,
 ) -> Result<(), AllocError>
-    ensures { OnOk result
-        (string_bytes text.new ≡ string_bytes text.old ++ spec.file_back (file_view file.now)) }
+    ensures { Puts result text.old text.new (spec.file_back (file_view file.now)) }
 {
     put_messages(alloc, text, 1, &file.message_type)?;
     put_enums(alloc, text, 1, &file.enum_type)?;
@@ -146,9 +143,8 @@ fn put_messages(
     level: usize,
     messages: &[DescriptorProto],
 ) -> Result<(), AllocError>
-    ensures { OnOk result
-        (string_bytes text.new ≡ string_bytes text.old
-        ++ flat_map (spec.message_lines level) (map message_view messages.now)) }
+    ensures { Puts result text.old text.new
+        (flat_map (spec.message_lines level) (map message_view messages.now)) }
 {
     for message in messages {
         put_message(alloc, text, level, message)?;
@@ -165,9 +161,7 @@ fn put_message(
     level: usize,
     message: &DescriptorProto,
 ) -> Result<(), AllocError>
-    ensures { OnOk result
-        (string_bytes text.new ≡ string_bytes text.old
-        ++ spec.message_lines level (message_view message.now)) }
+    ensures { Puts result text.old text.new (spec.message_lines level (message_view message.now)) }
 {
     put_line(text, level, "message ", &message.name)?;
     put_message_front(alloc, text, level + 1, message)?;
@@ -184,9 +178,8 @@ fn put_message_front(
     level: usize,
     message: &DescriptorProto,
 ) -> Result<(), AllocError>
-    ensures { OnOk result
-        (string_bytes text.new ≡ string_bytes text.old
-        ++ spec.message_front level (message_parts message.now)) }
+    ensures { Puts result text.old text.new
+        (spec.message_front level (message_parts message.now)) }
 {
     put_message_options(alloc, text, level, &message.options)?;
     put_fields(alloc, text, level, &message.field)?;
@@ -201,9 +194,8 @@ fn put_message_middle(
     level: usize,
     message: &DescriptorProto,
 ) -> Result<(), AllocError>
-    ensures { OnOk result
-        (string_bytes text.new ≡ string_bytes text.old
-        ++ spec.message_middle level (message_parts message.now)) }
+    ensures { Puts result text.old text.new
+        (spec.message_middle level (message_parts message.now)) }
 {
     put_enums(alloc, text, level, &message.enum_type)?;
     put_extensions(alloc, text, level, &message.extension)
@@ -217,9 +209,7 @@ fn put_message_back(
     level: usize,
     message: &DescriptorProto,
 ) -> Result<(), AllocError>
-    ensures { OnOk result
-        (string_bytes text.new ≡ string_bytes text.old
-        ++ spec.message_back level (message_parts message.now)) }
+    ensures { Puts result text.old text.new (spec.message_back level (message_parts message.now)) }
 {
     put_extension_ranges(text, level, &message.extension_range)?;
     put_reserved_ranges(text, level, &message.reserved_range)?;
@@ -231,9 +221,8 @@ fn put_extension_ranges(
     level: usize,
     ranges: &[ExtensionRange],
 ) -> Result<(), AllocError>
-    ensures { OnOk result
-        (string_bytes text.new ≡ string_bytes text.old
-        ++ flat_map (spec.range_line level (codes "extension_range "))
+    ensures { Puts result text.old text.new
+        (flat_map (spec.range_line level (codes "extension_range "))
         (map extension_range_view ranges.now)) }
 {
     for range in ranges {
@@ -247,9 +236,8 @@ fn put_extension_range(
     level: usize,
     range: &ExtensionRange,
 ) -> Result<(), AllocError>
-    ensures { OnOk result
-        (string_bytes text.new ≡ string_bytes text.old
-        ++ spec.range_line level (codes "extension_range ") (extension_range_view range.now)) }
+    ensures { Puts result text.old text.new
+        (spec.range_line level (codes "extension_range ") (extension_range_view range.now)) }
 {
     put_range_line(text, level, "extension_range ", &range.start, &range.end)
 }
@@ -259,9 +247,8 @@ fn put_reserved_ranges(
     level: usize,
     ranges: &[ReservedRange],
 ) -> Result<(), AllocError>
-    ensures { OnOk result
-        (string_bytes text.new ≡ string_bytes text.old
-        ++ flat_map (spec.range_line level (codes "reserved_range "))
+    ensures { Puts result text.old text.new
+        (flat_map (spec.range_line level (codes "reserved_range "))
         (map reserved_range_view ranges.now)) }
 {
     for range in ranges {
@@ -275,9 +262,8 @@ fn put_reserved_range(
     level: usize,
     range: &ReservedRange,
 ) -> Result<(), AllocError>
-    ensures { OnOk result
-        (string_bytes text.new ≡ string_bytes text.old
-        ++ spec.range_line level (codes "reserved_range ") (reserved_range_view range.now)) }
+    ensures { Puts result text.old text.new
+        (spec.range_line level (codes "reserved_range ") (reserved_range_view range.now)) }
 {
     put_range_line(text, level, "reserved_range ", &range.start, &range.end)
 }
@@ -288,9 +274,8 @@ fn put_oneofs(
     level: usize,
     oneofs: &[OneofDescriptorProto],
 ) -> Result<(), AllocError>
-    ensures { OnOk result
-        (string_bytes text.new ≡ string_bytes text.old
-        ++ flat_map (spec.oneof_lines level) (map oneof_view oneofs.now)) }
+    ensures { Puts result text.old text.new
+        (flat_map (spec.oneof_lines level) (map oneof_view oneofs.now)) }
 {
     for oneof in oneofs {
         put_line(text, level, "oneof ", &oneof.name)?;
@@ -305,9 +290,8 @@ fn put_enums(
     level: usize,
     enums: &[EnumDescriptorProto],
 ) -> Result<(), AllocError>
-    ensures { OnOk result
-        (string_bytes text.new ≡ string_bytes text.old
-        ++ flat_map (spec.enum_lines level) (map enum_view enums.now)) }
+    ensures { Puts result text.old text.new
+        (flat_map (spec.enum_lines level) (map enum_view enums.now)) }
 {
     for each in enums {
         put_line(text, level, "enum ", &each.name)?;
@@ -324,9 +308,7 @@ fn put_enum_parts(
     level: usize,
     of: &EnumDescriptorProto,
 ) -> Result<(), AllocError>
-    ensures { OnOk result
-        (string_bytes text.new ≡ string_bytes text.old
-        ++ spec.enum_parts level (enum_view of.now)) }
+    ensures { Puts result text.old text.new (spec.enum_parts level (enum_view of.now)) }
 {
     put_enum_options(alloc, text, level, &of.options)?;
     put_enum_values(alloc, text, level, &of.value)?;
@@ -340,9 +322,8 @@ fn put_enum_values(
     level: usize,
     values: &[EnumValueDescriptorProto],
 ) -> Result<(), AllocError>
-    ensures { OnOk result
-        (string_bytes text.new ≡ string_bytes text.old
-        ++ flat_map (spec.enum_value_lines level) (map enum_value_view values.now)) }
+    ensures { Puts result text.old text.new
+        (flat_map (spec.enum_value_lines level) (map enum_value_view values.now)) }
 {
     for value in values {
         put_enum_value(alloc, text, level, value)?;
@@ -356,9 +337,8 @@ fn put_enum_value(
     level: usize,
     value: &EnumValueDescriptorProto,
 ) -> Result<(), AllocError>
-    ensures { OnOk result
-        (string_bytes text.new ≡ string_bytes text.old
-        ++ spec.enum_value_lines level (enum_value_view value.now)) }
+    ensures { Puts result text.old text.new
+        (spec.enum_value_lines level (enum_value_view value.now)) }
 {
     begin_line(text, level, "value ")?;
     put_enum_value_words(text, value)?;
@@ -372,9 +352,7 @@ fn put_enum_value_words(
     text: &mut String,
     value: &EnumValueDescriptorProto,
 ) -> Result<(), AllocError>
-    ensures { OnOk result
-        (string_bytes text.new ≡ string_bytes text.old
-        ++ spec.enum_value_words (enum_value_view value.now)) }
+    ensures { Puts result text.old text.new (spec.enum_value_words (enum_value_view value.now)) }
 {
     text.push_str(&value.name)?;
     text.push_str(" = ")?;
@@ -386,9 +364,8 @@ fn put_enum_ranges(
     level: usize,
     ranges: &[EnumReservedRange],
 ) -> Result<(), AllocError>
-    ensures { OnOk result
-        (string_bytes text.new ≡ string_bytes text.old
-        ++ flat_map (spec.range_line level (codes "reserved_range "))
+    ensures { Puts result text.old text.new
+        (flat_map (spec.range_line level (codes "reserved_range "))
         (map enum_range_view ranges.now)) }
 {
     for range in ranges {
@@ -402,9 +379,8 @@ fn put_enum_range(
     level: usize,
     range: &EnumReservedRange,
 ) -> Result<(), AllocError>
-    ensures { OnOk result
-        (string_bytes text.new ≡ string_bytes text.old
-        ++ spec.range_line level (codes "reserved_range ") (enum_range_view range.now)) }
+    ensures { Puts result text.old text.new
+        (spec.range_line level (codes "reserved_range ") (enum_range_view range.now)) }
 {
     put_range_line(text, level, "reserved_range ", &range.start, &range.end)
 }
@@ -415,9 +391,8 @@ fn put_services(
     level: usize,
     services: &[ServiceDescriptorProto],
 ) -> Result<(), AllocError>
-    ensures { OnOk result
-        (string_bytes text.new ≡ string_bytes text.old
-        ++ flat_map (spec.service_lines level) (map service_view services.now)) }
+    ensures { Puts result text.old text.new
+        (flat_map (spec.service_lines level) (map service_view services.now)) }
 {
     for service in services {
         put_service(alloc, text, level, service)?;
@@ -431,9 +406,7 @@ fn put_service(
     level: usize,
     service: &ServiceDescriptorProto,
 ) -> Result<(), AllocError>
-    ensures { OnOk result
-        (string_bytes text.new ≡ string_bytes text.old
-        ++ spec.service_lines level (service_view service.now)) }
+    ensures { Puts result text.old text.new (spec.service_lines level (service_view service.now)) }
 {
     put_line(text, level, "service ", &service.name)?;
     put_service_options(alloc, text, level + 1, &service.options)?;
@@ -446,9 +419,8 @@ fn put_methods(
     level: usize,
     methods: &[MethodDescriptorProto],
 ) -> Result<(), AllocError>
-    ensures { OnOk result
-        (string_bytes text.new ≡ string_bytes text.old
-        ++ flat_map (spec.method_lines level) (map method_view methods.now)) }
+    ensures { Puts result text.old text.new
+        (flat_map (spec.method_lines level) (map method_view methods.now)) }
 {
     for method in methods {
         put_method(alloc, text, level, method)?;
@@ -462,9 +434,7 @@ fn put_method(
     level: usize,
     method: &MethodDescriptorProto,
 ) -> Result<(), AllocError>
-    ensures { OnOk result
-        (string_bytes text.new ≡ string_bytes text.old
-        ++ spec.method_lines level (method_view method.now)) }
+    ensures { Puts result text.old text.new (spec.method_lines level (method_view method.now)) }
 {
     begin_line(text, level, "method ")?;
     put_method_words(text, method)?;
@@ -475,9 +445,7 @@ fn put_method(
 /// `NAME INPUT OUTPUT`, and on which side the method streams.
 #[tactic(auto, unfolding(crate::specs::Listing::method_words))]
 fn put_method_words(text: &mut String, method: &MethodDescriptorProto) -> Result<(), AllocError>
-    ensures { OnOk result
-        (string_bytes text.new ≡ string_bytes text.old
-        ++ spec.method_words (method_view method.now)) }
+    ensures { Puts result text.old text.new (spec.method_words (method_view method.now)) }
 {
     put_names(text, &method.name, &method.input_type, &method.output_type)?;
     put_words_if(text, method.client_streaming, " client_streaming")?;
@@ -486,9 +454,8 @@ fn put_method_words(text: &mut String, method: &MethodDescriptorProto) -> Result
 
 /// Three names with a space between them.
 fn put_names(text: &mut String, name: &str, input: &str, output: &str) -> Result<(), AllocError>
-    ensures { OnOk result
-        (string_bytes text.new ≡ string_bytes text.old
-        ++ (name.now ++ codes " " ++ input.now ++ codes " " ++ output.now)) }
+    ensures { Puts result text.old text.new
+        (name.now ++ codes " " ++ input.now ++ codes " " ++ output.now) }
 {
     text.push_str(name)?;
     text.push(' ')?;

@@ -1,16 +1,18 @@
 //! The lines of fields and extensions.
 
-ghost use Rattle.std.specs.Prelude.{◌≡◌, ◌*◌, [], ◌∷◌, ◌++◌, OnOk, codes, flat_map, map};
+ghost use Rattle.std.specs.Prelude.{◌≡◌, ◌*◌, [], ◌∷◌, ◌++◌, codes, flat_map, map};
 ghost use Rattle.std.specs.Prelude.{option_map, replicate};
 ghost use Rattle.std.specs.String.{string_bytes};
 ghost use Rattle.protobuf_parse_base.specs.Characters as char;
 ghost use Rattle.protobuf_parse_model.specs.Descriptors.{field_view};
+ghost use Rattle.protobuf_parse_model.specs.Words.{label_word};
 ghost use Rattle.protobuf_parse_listing.specs.Listing as spec;
 ghost use Rattle.protobuf_parse_listing.specs.Parts.{after_label, front_after_label};
+ghost use Rattle.protobuf_parse_listing.specs.Puts.{Puts};
 
 use crate::pieces::{begin_line, end_line, end_quoted, put_number};
 use crate::settings::put_field_options;
-use protobuf_parse_model::{FieldDescriptorProto, FieldType, Label};
+use protobuf_parse_model::{FieldDescriptorProto, FieldType, Label, label_word, type_word};
 use std::alloc::{AllocError, Global};
 
 /// Adds the lines of fields, which stand at that level.
@@ -20,9 +22,8 @@ pub fn put_fields(
     level: usize,
     fields: &[FieldDescriptorProto],
 ) -> Result<(), AllocError>
-    ensures { OnOk result
-        (string_bytes text.new ≡ string_bytes text.old
-        ++ flat_map (spec.field_lines level) (map field_view fields.now)) }
+    ensures { Puts result text.old text.new
+        (flat_map (spec.field_lines level) (map field_view fields.now)) }
 {
     for field in fields {
         put_field(alloc, text, level, field)?;
@@ -37,9 +38,8 @@ pub fn put_extensions(
     level: usize,
     fields: &[FieldDescriptorProto],
 ) -> Result<(), AllocError>
-    ensures { OnOk result
-        (string_bytes text.new ≡ string_bytes text.old
-        ++ flat_map (spec.extension_lines level) (map field_view fields.now)) }
+    ensures { Puts result text.old text.new
+        (flat_map (spec.extension_lines level) (map field_view fields.now)) }
 {
     for field in fields {
         put_extension(alloc, text, level, field)?;
@@ -54,11 +54,9 @@ fn put_field(
     level: usize,
     field: &FieldDescriptorProto,
 ) -> Result<(), AllocError>
-    ensures { OnOk result
-        (string_bytes text.new ≡ string_bytes text.old
-        ++ spec.field_lines level (field_view field.now)) }
+    ensures { Puts result text.old text.new (spec.field_lines level (field_view field.now)) }
 {
-    begin_line(text, level, field_words(field.label))?;
+    begin_field(text, level, field.label)?;
     put_after_label(alloc, text, field)?;
     put_field_options(alloc, text, level + 1, &field.options)
 }
@@ -70,13 +68,20 @@ fn put_extension(
     level: usize,
     field: &FieldDescriptorProto,
 ) -> Result<(), AllocError>
-    ensures { OnOk result
-        (string_bytes text.new ≡ string_bytes text.old
-        ++ spec.extension_lines level (field_view field.now)) }
+    ensures { Puts result text.old text.new (spec.extension_lines level (field_view field.now)) }
 {
     begin_extension(text, level, field)?;
     put_after_label(alloc, text, field)?;
     put_field_options(alloc, text, level + 1, &field.options)
+}
+
+/// `field LABEL `.
+fn begin_field(text: &mut String, level: usize, label: Label) -> Result<(), AllocError>
+    ensures { Puts result text.old text.new
+        (replicate (2 * level) char.space ++ (codes "field " ++ (label_word label ++ codes " "))) }
+{
+    begin_line(text, level, "field ")?;
+    put_word(text, label_word(label))
 }
 
 /// `extension EXTENDEE LABEL `.
@@ -85,22 +90,21 @@ fn begin_extension(
     level: usize,
     field: &FieldDescriptorProto,
 ) -> Result<(), AllocError>
-    ensures { OnOk result
-        (string_bytes text.new ≡ string_bytes text.old ++ replicate (2 * level) char.space
+    ensures { Puts result text.old text.new
+        (replicate (2 * level) char.space
         ++ (spec.extension_front (field_view field.now)
-        ++ (spec.label_word field.now.label ++ codes " "))) }
+        ++ (label_word field.now.label ++ codes " "))) }
 {
     begin_line(text, level, "extension ")?;
     put_text(text, &field.extendee)?;
     text.push(' ')?;
-    text.push_str(label_words(field.label))
+    put_word(text, label_word(field.label))
 }
 
 /// The text, where there is one.
 fn put_text(text: &mut String, part: &Option<String>) -> Result<(), AllocError>
-    ensures { OnOk result
-        (string_bytes text.new ≡ string_bytes text.old
-        ++ spec.text_or_nothing (option_map string_bytes part.now)) }
+    ensures { Puts result text.old text.new
+        (spec.text_or_nothing (option_map string_bytes part.now)) }
 {
     match part {
         Some(part) => text.push_str(part),
@@ -115,9 +119,8 @@ fn put_after_label(
     text: &mut String,
     field: &FieldDescriptorProto,
 ) -> Result<(), AllocError>
-    ensures { OnOk result
-        (string_bytes text.new ≡ string_bytes text.old
-        ++ (after_label (field_view field.now) ++ char.newline ∷ [])) }
+    ensures { Puts result text.old text.new
+        (after_label (field_view field.now) ++ char.newline ∷ []) }
 {
     put_field_front(text, field)?;
     put_field_back(alloc, text, field)?;
@@ -126,9 +129,7 @@ fn put_after_label(
 
 /// `TYPE NAME = NUMBER`.
 fn put_field_front(text: &mut String, field: &FieldDescriptorProto) -> Result<(), AllocError>
-    ensures { OnOk result
-        (string_bytes text.new ≡ string_bytes text.old
-        ++ front_after_label (field_view field.now)) }
+    ensures { Puts result text.old text.new (front_after_label (field_view field.now)) }
 {
     put_type(text, field.type_, &field.type_name)?;
     text.push_str(&field.name)?;
@@ -142,11 +143,10 @@ fn put_type(
     type_: FieldType,
     type_name: &Option<String>,
 ) -> Result<(), AllocError>
-    ensures { OnOk result
-        (string_bytes text.new ≡ string_bytes text.old
-        ++ spec.type_words type_ (option_map string_bytes type_name.now) ++ codes " ") }
+    ensures { Puts result text.old text.new
+        (spec.type_words type_ (option_map string_bytes type_name.now) ++ codes " ") }
 {
-    text.push_str(type_word(type_))?;
+    put_word(text, type_word(type_))?;
     if !is_named(type_) {
         return Ok(());
     }
@@ -161,8 +161,7 @@ fn put_field_back(
     text: &mut String,
     field: &FieldDescriptorProto,
 ) -> Result<(), AllocError>
-    ensures { OnOk result
-        (string_bytes text.new ≡ string_bytes text.old ++ spec.field_back (field_view field.now)) }
+    ensures { Puts result text.old text.new (spec.field_back (field_view field.now)) }
 {
     text.push_str(" json \"")?;
     end_quoted(alloc, text, &field.json_name)?;
@@ -173,9 +172,8 @@ fn put_field_back(
 
 #[tactic(auto, unfolding(crate::specs::Listing::quoted))]
 fn put_default(alloc: Global, text: &mut String, value: &Option<String>) -> Result<(), AllocError>
-    ensures { OnOk result
-        (string_bytes text.new ≡ string_bytes text.old
-        ++ spec.default_words (option_map string_bytes value.now)) }
+    ensures { Puts result text.old text.new
+        (spec.default_words (option_map string_bytes value.now)) }
 {
     match value {
         None => Ok(()),
@@ -187,8 +185,7 @@ fn put_default(alloc: Global, text: &mut String, value: &Option<String>) -> Resu
 }
 
 fn put_oneof_index(text: &mut String, index: Option<i32>) -> Result<(), AllocError>
-    ensures { OnOk result
-        (string_bytes text.new ≡ string_bytes text.old ++ spec.oneof_words index) }
+    ensures { Puts result text.old text.new (spec.oneof_words index) }
 {
     match index {
         None => Ok(()),
@@ -201,8 +198,7 @@ fn put_oneof_index(text: &mut String, index: Option<i32>) -> Result<(), AllocErr
 
 /// Adds the words, if that is so.
 pub fn put_words_if(text: &mut String, is_so: bool, words: &str) -> Result<(), AllocError>
-    ensures { OnOk result
-        (string_bytes text.new ≡ string_bytes text.old ++ spec.words_if is_so words.now) }
+    ensures { Puts result text.old text.new (spec.words_if is_so words.now) }
 {
     if is_so { text.push_str(words) } else { Ok(()) }
 }
@@ -216,50 +212,10 @@ fn is_named(type_: FieldType) -> bool
     )
 }
 
-/// The first words of a field's line.
-fn field_words(label: Label) -> &'static str
-    ensures { result.now ≡ codes "field " ++ (spec.label_word label ++ codes " ") }
+/// A word and a space.
+fn put_word(text: &mut String, word: &str) -> Result<(), AllocError>
+    ensures { Puts result text.old text.new (word.now ++ codes " ") }
 {
-    match label {
-        Label::Optional => "field optional ",
-        Label::Required => "field required ",
-        Label::Repeated => "field repeated ",
-    }
-}
-
-/// A label's word and a space.
-fn label_words(label: Label) -> &'static str
-    ensures { result.now ≡ spec.label_word label ++ codes " " }
-{
-    match label {
-        Label::Optional => "optional ",
-        Label::Required => "required ",
-        Label::Repeated => "repeated ",
-    }
-}
-
-/// A type's word and a space.
-fn type_word(type_: FieldType) -> &'static str
-    ensures { result.now ≡ spec.type_word type_ ++ codes " " }
-{
-    match type_ {
-        FieldType::Int32 => "int32 ",
-        FieldType::Int64 => "int64 ",
-        FieldType::Uint32 => "uint32 ",
-        FieldType::Uint64 => "uint64 ",
-        FieldType::Sint32 => "sint32 ",
-        FieldType::Sint64 => "sint64 ",
-        FieldType::Fixed32 => "fixed32 ",
-        FieldType::Sfixed32 => "sfixed32 ",
-        FieldType::Fixed64 => "fixed64 ",
-        FieldType::Sfixed64 => "sfixed64 ",
-        FieldType::Bool => "bool ",
-        FieldType::String => "string ",
-        FieldType::Bytes => "bytes ",
-        FieldType::Float => "float ",
-        FieldType::Double => "double ",
-        FieldType::Message => "message ",
-        FieldType::Enum => "enum ",
-        FieldType::Group => "group ",
-    }
+    text.push_str(word)?;
+    text.push(' ')
 }

@@ -56,8 +56,7 @@ pub fn listing(alloc: Global, files: &[FileDescriptorProto]) -> Result<String, A
 }
 
 /// Room for the lines of the fields, as long as most are, so that a long text is not copied while
-/// it
-/// grows.
+/// it grows.
 fn room_for(files: &[FileDescriptorProto]) -> usize {
     let mut fields: usize = 0;
     for file in files {

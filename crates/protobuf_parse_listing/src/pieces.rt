@@ -1,6 +1,6 @@
 //! What lines are made of.
 
-ghost use Rattle.std.specs.Prelude.{◌≡◌, ◌<◌, ◌≤◌, ◌+◌, ◌*◌, [], ◌∷◌, ◌++◌, OnOk, codes};
+ghost use Rattle.std.specs.Prelude.{◌≡◌, ◌<◌, ◌≤◌, ◌+◌, ◌*◌, [], ◌∷◌, ◌++◌};
 ghost use Rattle.std.specs.Prelude.{drop, flat_map, length, map, option_map, replicate, take};
 ghost use Rattle.std.specs.Fmt.{signed_decimal};
 ghost use Rattle.std.specs.List.{list_all};
@@ -8,7 +8,8 @@ ghost use Rattle.std.specs.String.{string_bytes};
 ghost use Rattle.protobuf_parse_base.specs.Characters as char;
 ghost use Rattle.protobuf_parse_base.specs.Escapes.{escaped_bytes};
 ghost use Rattle.protobuf_parse_listing.specs.Listing as spec;
-ghost use Rattle.protobuf_parse_listing.specs.Plain as plain;
+ghost use Rattle.protobuf_parse_listing.specs.Puts.{Puts};
+ghost use Rattle.protobuf_parse_listing.specs.Unescaped as unescaped;
 
 use itoa::Buffer;
 use protobuf_parse_base::text::escape_bytes;
@@ -19,7 +20,7 @@ use std::simd::prelude::*;
 const PRINTABLE: u8 = b'~' - b' ' + 1;
 
 // Each byte that is not escaped stands at its own place, and an apostrophe at every other place.
-static PLAIN_MAP: [u8; 256] = *b"\
+static UNESCAPED_MAP: [u8; 256] = *b"\
     ''''''''''''''''''''''''''''''''\
     \x20!'#$%&'()*+,-./0123456789:;<=>?\
     @ABCDEFGHIJKLMNOPQRSTUVWXYZ[']^_\
@@ -31,8 +32,7 @@ static PLAIN_MAP: [u8; 256] = *b"\
 
 /// A line of two parts.
 pub fn put_line(text: &mut String, level: usize, words: &str, rest: &str) -> Result<(), AllocError>
-    ensures { OnOk result
-        (string_bytes text.new ≡ string_bytes text.old ++ spec.line level (words.now ++ rest.now)) }
+    ensures { Puts result text.old text.new (spec.line level (words.now ++ rest.now)) }
 {
     begin_line(text, level, words)?;
     text.push_str(rest)?;
@@ -42,9 +42,7 @@ pub fn put_line(text: &mut String, level: usize, words: &str, rest: &str) -> Res
 /// The first words of a line.
 #[inline(always)]
 pub fn begin_line(text: &mut String, level: usize, words: &str) -> Result<(), AllocError>
-    ensures { OnOk result
-        (string_bytes text.new ≡ string_bytes text.old
-        ++ replicate (2 * level) char.space ++ words.now) }
+    ensures { Puts result text.old text.new (replicate (2 * level) char.space ++ words.now) }
 {
     put_indent(text, level)?;
     text.push_str(words)
@@ -52,8 +50,7 @@ pub fn begin_line(text: &mut String, level: usize, words: &str) -> Result<(), Al
 
 /// The end of a line.
 pub fn end_line(text: &mut String) -> Result<(), AllocError>
-    ensures { OnOk result
-        (string_bytes text.new ≡ string_bytes text.old ++ char.newline ∷ []) }
+    ensures { Puts result text.old text.new (char.newline ∷ []) }
 {
     text.push('\n')
 }
@@ -65,9 +62,8 @@ pub fn put_optional_line(
     words: &str,
     rest: &Option<String>,
 ) -> Result<(), AllocError>
-    ensures { OnOk result
-        (string_bytes text.new ≡ string_bytes text.old
-        ++ spec.line level (words.now ++ spec.text_or_nothing (option_map string_bytes rest.now))) }
+    ensures { Puts result text.old text.new
+        (spec.line level (words.now ++ spec.text_or_nothing (option_map string_bytes rest.now))) }
 {
     match rest {
         Some(rest) => put_line(text, level, words, rest),
@@ -82,9 +78,8 @@ pub fn put_line_if_some(
     words: &str,
     rest: &Option<String>,
 ) -> Result<(), AllocError>
-    ensures { OnOk result
-        (string_bytes text.new ≡ string_bytes text.old
-        ++ spec.line_if_some level words.now (option_map string_bytes rest.now)) }
+    ensures { Puts result text.old text.new
+        (spec.line_if_some level words.now (option_map string_bytes rest.now)) }
 {
     match rest {
         Some(rest) => put_line(text, level, words, rest),
@@ -101,9 +96,8 @@ pub fn put_range_line(
     start: &i32,
     end: &i32,
 ) -> Result<(), AllocError>
-    ensures { OnOk result
-        (string_bytes text.new ≡ string_bytes text.old
-        ++ spec.range_line level words.now (record { start = start.now; end = end.now })) }
+    ensures { Puts result text.old text.new
+        (spec.range_line level words.now (record { start = start.now; end = end.now })) }
 {
     begin_line(text, level, words)?;
     put_range_words(text, *start, *end)?;
@@ -112,8 +106,7 @@ pub fn put_range_line(
 
 /// Two numbers with a space between them.
 fn put_range_words(text: &mut String, start: i32, end: i32) -> Result<(), AllocError>
-    ensures { OnOk result
-        (string_bytes text.new ≡ string_bytes text.old ++ spec.range_words start end) }
+    ensures { Puts result text.old text.new (spec.range_words start end) }
 {
     put_number(text, start)?;
     text.push(' ')?;
@@ -124,8 +117,7 @@ fn put_range_words(text: &mut String, start: i32, end: i32) -> Result<(), AllocE
 #[inline(always)]
 #[tactic(auto, using(std::proofs::lemmas::Fmt::decimal_digit))]
 pub fn put_number(text: &mut String, number: i32) -> Result<(), AllocError>
-    ensures { OnOk result
-        (string_bytes text.new ≡ string_bytes text.old ++ signed_decimal number) }
+    ensures { Puts result text.old text.new (signed_decimal number) }
 {
     let magnitude = number.unsigned_abs();
     if number >= 0 && magnitude < 10 {
@@ -137,8 +129,7 @@ pub fn put_number(text: &mut String, number: i32) -> Result<(), AllocError>
 
 /// Two spaces for each level.
 fn put_indent(text: &mut String, level: usize) -> Result<(), AllocError>
-    ensures { OnOk result
-        (string_bytes text.new ≡ string_bytes text.old ++ replicate (2 * level) char.space) }
+    ensures { Puts result text.old text.new (replicate (2 * level) char.space) }
 {
     for done in 0..level {
         text.push_str("  ")?;
@@ -149,7 +140,7 @@ fn put_indent(text: &mut String, level: usize) -> Result<(), AllocError>
 /// The words in double quotes, escaped.
 #[tactic(auto, unfolding(crate::specs::Listing::quoted))]
 pub fn put_quoted(alloc: Global, text: &mut String, words: &str) -> Result<(), AllocError>
-    ensures { OnOk result (string_bytes text.new ≡ string_bytes text.old ++ spec.quoted words.now) }
+    ensures { Puts result text.old text.new (spec.quoted words.now) }
 {
     text.push('"')?;
     end_quoted(alloc, text, words)
@@ -158,9 +149,7 @@ pub fn put_quoted(alloc: Global, text: &mut String, words: &str) -> Result<(), A
 /// The words as they are escaped between double quotes, and the closing one.
 #[inline(always)]
 pub fn end_quoted(alloc: Global, text: &mut String, words: &str) -> Result<(), AllocError>
-    ensures { OnOk result
-        (string_bytes text.new ≡ string_bytes text.old
-        ++ (escaped_bytes words.now ++ char.quote ∷ [])) }
+    ensures { Puts result text.old text.new (escaped_bytes words.now ++ char.quote ∷ []) }
 {
     put_escaped(alloc, text, words)?;
     text.push('"')
@@ -169,10 +158,9 @@ pub fn end_quoted(alloc: Global, text: &mut String, words: &str) -> Result<(), A
 /// The words as they are escaped between double quotes: most as they are.
 #[inline(always)]
 fn put_escaped(alloc: Global, text: &mut String, words: &str) -> Result<(), AllocError>
-    ensures { OnOk result
-        (string_bytes text.new ≡ string_bytes text.old ++ escaped_bytes words.now) }
+    ensures { Puts result text.old text.new (escaped_bytes words.now) }
 {
-    if is_plain(words) {
+    if is_unescaped(words) {
         text.push_str(words)
     } else {
         put_escapes(alloc, text, words)
@@ -183,8 +171,7 @@ fn put_escaped(alloc: Global, text: &mut String, words: &str) -> Result<(), Allo
 /// name.
 #[inline(never)]
 fn put_escapes(alloc: Global, text: &mut String, words: &str) -> Result<(), AllocError>
-    ensures { OnOk result
-        (string_bytes text.new ≡ string_bytes text.old ++ escaped_bytes words.now) }
+    ensures { Puts result text.old text.new (escaped_bytes words.now) }
 {
     let escaped = escape_bytes(alloc, words.as_bytes())?;
     text.push_str(&escaped)
@@ -192,43 +179,43 @@ fn put_escapes(alloc: Global, text: &mut String, words: &str) -> Result<(), Allo
 
 /// Whether each byte stands between double quotes as it is: in short words one by one.
 #[inline(always)]
-fn is_plain(words: &str) -> bool
-    ensures { result ≡ list_all plain.is_plain_byte words.now }
+fn is_unescaped(words: &str) -> bool
+    ensures { result ≡ list_all unescaped.is_unescaped_byte words.now }
 {
     let bytes = words.as_bytes();
     if bytes.len() >= 16 {
-        return are_plain::<16>(bytes);
+        return are_unescaped::<16>(bytes);
     }
     if bytes.len() >= 8 {
-        return are_plain::<8>(bytes);
+        return are_unescaped::<8>(bytes);
     }
-    bytes.iter().all(|byte| is_plain_byte(*byte))
+    bytes.iter().all(|byte| is_unescaped_byte(*byte))
 }
 
 /// The same, N bytes at a time. The last N are looked at together, even if some of them were
 /// before.
 #[inline(always)]
-fn are_plain<const N: usize>(bytes: &[u8]) -> bool
+fn are_unescaped<const N: usize>(bytes: &[u8]) -> bool
     requires lanes { (0 < N) × (N ≤ 64) }
     requires long { N ≤ length bytes.now }
-    ensures { result ≡ list_all plain.is_plain_byte bytes.now }
+    ensures { result ≡ list_all unescaped.is_unescaped_byte bytes.now }
 {
     let last = bytes.len() - N;
     let mut at = 0;
     'by_run: while at < last {
-        if !is_plain_run::<N>(bytes, at) {
+        if !is_unescaped_run::<N>(bytes, at) {
             return false;
         }
         at += N;
     }
-    is_plain_run::<N>(bytes, last)
+    is_unescaped_run::<N>(bytes, last)
 }
 
 #[inline(always)]
-fn is_plain_run<const N: usize>(bytes: &[u8], at: usize) -> bool
+fn is_unescaped_run<const N: usize>(bytes: &[u8], at: usize) -> bool
     requires lanes { N ≤ 64 }
     requires room { at + N ≤ length bytes.now }
-    ensures { result ≡ list_all plain.is_plain_byte (take N (drop at bytes.now)) }
+    ensures { result ≡ list_all unescaped.is_unescaped_byte (take N (drop at bytes.now)) }
 {
     let next = Simd::<u8, N>::from_slice(&bytes[at..]);
     let from_space = next - Simd::splat(b' ');
@@ -239,10 +226,10 @@ fn is_plain_run<const N: usize>(bytes: &[u8], at: usize) -> bool
     stops.to_bitmask() == 0
 }
 
-fn is_plain_byte(byte: u8) -> bool
-    ensures { result ≡ plain.is_plain_byte byte }
+fn is_unescaped_byte(byte: u8) -> bool
+    ensures { result ≡ unescaped.is_unescaped_byte byte }
 {
-    PLAIN_MAP[byte as usize] != b'\''
+    UNESCAPED_MAP[byte as usize] != b'\''
 }
 
 /// A line `reserved_name "N"` each.
@@ -252,9 +239,8 @@ pub fn put_reserved_names(
     level: usize,
     names: &[String],
 ) -> Result<(), AllocError>
-    ensures { OnOk result
-        (string_bytes text.new ≡ string_bytes text.old
-        ++ flat_map (spec.reserved_name_line level) (map string_bytes names.now)) }
+    ensures { Puts result text.old text.new
+        (flat_map (spec.reserved_name_line level) (map string_bytes names.now)) }
 {
     for name in names {
         put_reserved_name(alloc, text, level, name)?;
@@ -269,8 +255,7 @@ fn put_reserved_name(
     level: usize,
     name: &str,
 ) -> Result<(), AllocError>
-    ensures { OnOk result
-        (string_bytes text.new ≡ string_bytes text.old ++ spec.reserved_name_line level name.now) }
+    ensures { Puts result text.old text.new (spec.reserved_name_line level name.now) }
 {
     begin_line(text, level, "reserved_name \"")?;
     end_quoted(alloc, text, name)?;

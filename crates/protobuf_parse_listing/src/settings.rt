@@ -1,7 +1,6 @@
 //! The lines of options.
 
-ghost use Rattle.std.specs.Prelude.{◌≡◌, ◌++◌, OnOk, Some, flat_map, map};
-ghost use Rattle.std.specs.Prelude.{option_map};
+ghost use Rattle.std.specs.Prelude.{◌≡◌, Some, flat_map, map, option_map};
 ghost use Rattle.std.specs.String.{string_bytes};
 ghost use Rattle.protobuf_parse_model.specs.Options.{enum_options_view, enum_value_options_view};
 ghost use Rattle.protobuf_parse_model.specs.Options.{field_options_view};
@@ -9,12 +8,14 @@ ghost use Rattle.protobuf_parse_model.specs.Options.{file_options_view};
 ghost use Rattle.protobuf_parse_model.specs.Options.{message_options_view, method_options_view};
 ghost use Rattle.protobuf_parse_model.specs.Options.{oneof_options_view, service_options_view};
 ghost use Rattle.protobuf_parse_listing.specs.Listing as spec;
+ghost use Rattle.protobuf_parse_listing.specs.Puts.{Puts};
 ghost use Rattle.protobuf_parse_listing.specs.Settings.{setting_view, value_words};
 
 use crate::pieces::{begin_line, end_line, put_line, put_quoted};
 use protobuf_parse_model::{
-    CType, EnumOptions, EnumValueOptions, FieldOptions, FileOptions, IdempotencyLevel, JSType,
-    MessageOptions, MethodOptions, OneofOptions, OptimizeMode, ServiceOptions,
+    EnumOptions, EnumValueOptions, FieldOptions, FileOptions, MessageOptions, MethodOptions,
+    OneofOptions, ServiceOptions, c_type_word, idempotency_level_word, js_type_word,
+    optimize_mode_word,
 };
 use std::alloc::{AllocError, Global};
 
@@ -54,64 +55,15 @@ fn truth_setting(name: &'static str, value: Option<bool>) -> Setting<'static>
     Setting { name, value }
 }
 
-fn optimize_for_setting(value: Option<OptimizeMode>) -> Setting<'static>
-    ensures { setting_view result ≡ spec.optimize_for_setting value }
+/// An option that is an enum, with the word of its value.
+fn word_setting(name: &'static str, word: Option<&'static str>) -> Setting<'static>
+    ensures { setting_view result ≡ (name.now, option_map (λ w. w.now) word.entry) }
 {
-    let value = match value {
-        Some(OptimizeMode::Speed) => Some(Value::Word("SPEED")),
-        Some(OptimizeMode::CodeSize) => Some(Value::Word("CODE_SIZE")),
-        Some(OptimizeMode::LiteRuntime) => Some(Value::Word("LITE_RUNTIME")),
+    let value = match word {
+        Some(word) => Some(Value::Word(word)),
         None => None,
     };
-    Setting {
-        name: "optimize_for",
-        value,
-    }
-}
-
-fn ctype_setting(value: Option<CType>) -> Setting<'static>
-    ensures { setting_view result ≡ spec.ctype_setting value }
-{
-    let value = match value {
-        Some(CType::String) => Some(Value::Word("STRING")),
-        Some(CType::Cord) => Some(Value::Word("CORD")),
-        Some(CType::StringPiece) => Some(Value::Word("STRING_PIECE")),
-        None => None,
-    };
-    Setting {
-        name: "ctype",
-        value,
-    }
-}
-
-fn jstype_setting(value: Option<JSType>) -> Setting<'static>
-    ensures { setting_view result ≡ spec.jstype_setting value }
-{
-    let value = match value {
-        Some(JSType::JsNormal) => Some(Value::Word("JS_NORMAL")),
-        Some(JSType::JsString) => Some(Value::Word("JS_STRING")),
-        Some(JSType::JsNumber) => Some(Value::Word("JS_NUMBER")),
-        None => None,
-    };
-    Setting {
-        name: "jstype",
-        value,
-    }
-}
-
-fn idempotency_level_setting(value: Option<IdempotencyLevel>) -> Setting<'static>
-    ensures { setting_view result ≡ spec.idempotency_level_setting value }
-{
-    let value = match value {
-        Some(IdempotencyLevel::IdempotencyUnknown) => Some(Value::Word("IDEMPOTENCY_UNKNOWN")),
-        Some(IdempotencyLevel::NoSideEffects) => Some(Value::Word("NO_SIDE_EFFECTS")),
-        Some(IdempotencyLevel::Idempotent) => Some(Value::Word("IDEMPOTENT")),
-        None => None,
-    };
-    Setting {
-        name: "idempotency_level",
-        value,
-    }
+    Setting { name, value }
 }
 
 /// The built-in options of a file with numbers up to 11.
@@ -121,7 +73,10 @@ fn first_file_settings(options: &FileOptions) -> [Setting<'_>; 5]
     [
         text_setting("java_package", &options.java_package),
         text_setting("java_outer_classname", &options.java_outer_classname),
-        optimize_for_setting(options.optimize_for),
+        word_setting(
+            "optimize_for",
+            options.optimize_for.map(|mode| optimize_mode_word(mode)),
+        ),
         truth_setting("java_multiple_files", options.java_multiple_files),
         text_setting("go_package", &options.go_package),
     ]
@@ -178,11 +133,11 @@ fn field_settings(options: &FieldOptions) -> [Setting<'static>; 8]
     ensures { map setting_view result ≡ spec.field_settings (field_options_view options.now) }
 {
     [
-        ctype_setting(options.ctype),
+        word_setting("ctype", options.ctype.map(|type_| c_type_word(type_))),
         truth_setting("packed", options.packed),
         truth_setting("deprecated", options.deprecated),
         truth_setting("lazy", options.lazy),
-        jstype_setting(options.jstype),
+        word_setting("jstype", options.jstype.map(|type_| js_type_word(type_))),
         truth_setting("weak", options.weak),
         truth_setting("unverified_lazy", options.unverified_lazy),
         truth_setting("debug_redact", options.debug_redact),
@@ -203,7 +158,12 @@ fn method_settings(options: &MethodOptions) -> [Setting<'static>; 2]
 {
     [
         truth_setting("deprecated", options.deprecated),
-        idempotency_level_setting(options.idempotency_level),
+        word_setting(
+            "idempotency_level",
+            options
+                .idempotency_level
+                .map(|level| idempotency_level_word(level)),
+        ),
     ]
 }
 
@@ -214,9 +174,7 @@ fn put_setting(
     level: usize,
     setting: &Setting<'_>,
 ) -> Result<(), AllocError>
-    ensures { OnOk result
-        (string_bytes text.new ≡ string_bytes text.old
-        ++ spec.setting_line level (setting_view setting.now)) }
+    ensures { Puts result text.old text.new (spec.setting_line level (setting_view setting.now)) }
 {
     match setting.value {
         None => Ok(()),
@@ -231,8 +189,7 @@ fn put_setting(
 }
 
 fn put_value(alloc: Global, text: &mut String, value: Value<'_>) -> Result<(), AllocError>
-    ensures { OnOk result
-        (string_bytes text.new ≡ string_bytes text.old ++ value_words value.entry) }
+    ensures { Puts result text.old text.new (value_words value.entry) }
 {
     match value {
         Value::Text(words) => put_quoted(alloc, text, words),
@@ -246,9 +203,8 @@ fn put_settings(
     level: usize,
     settings: &[Setting<'_>],
 ) -> Result<(), AllocError>
-    ensures { OnOk result
-        (string_bytes text.new ≡ string_bytes text.old
-        ++ flat_map (spec.setting_line level) (map setting_view settings.now)) }
+    ensures { Puts result text.old text.new
+        (flat_map (spec.setting_line level) (map setting_view settings.now)) }
 {
     for setting in settings {
         put_setting(alloc, text, level, setting)?;
@@ -263,8 +219,7 @@ fn put_custom(
     level: usize,
     bytes: &[u8],
 ) -> Result<(), AllocError>
-    ensures { OnOk result
-        (string_bytes text.new ≡ string_bytes text.old ++ spec.custom_line level bytes.now) }
+    ensures { Puts result text.old text.new (spec.custom_line level bytes.now) }
 {
     if bytes.is_empty() {
         return Ok(());
@@ -281,9 +236,8 @@ pub fn put_file_options(
     level: usize,
     options: &Option<FileOptions>,
 ) -> Result<(), AllocError>
-    ensures { OnOk result
-        (string_bytes text.new ≡ string_bytes text.old
-        ++ spec.file_option_lines level (option_map file_options_view options.now)) }
+    ensures { Puts result text.old text.new
+        (spec.file_option_lines level (option_map file_options_view options.now)) }
 {
     match options {
         None => Ok(()),
@@ -304,9 +258,8 @@ pub fn put_message_options(
     level: usize,
     options: &Option<MessageOptions>,
 ) -> Result<(), AllocError>
-    ensures { OnOk result
-        (string_bytes text.new ≡ string_bytes text.old
-        ++ spec.message_option_lines level (option_map message_options_view options.now)) }
+    ensures { Puts result text.old text.new
+        (spec.message_option_lines level (option_map message_options_view options.now)) }
 {
     match options {
         None => Ok(()),
@@ -325,9 +278,8 @@ pub fn put_field_options(
     level: usize,
     options: &Option<FieldOptions>,
 ) -> Result<(), AllocError>
-    ensures { OnOk result
-        (string_bytes text.new ≡ string_bytes text.old
-        ++ spec.field_option_lines level (option_map field_options_view options.now)) }
+    ensures { Puts result text.old text.new
+        (spec.field_option_lines level (option_map field_options_view options.now)) }
 {
     match options {
         None => Ok(()),
@@ -344,9 +296,8 @@ fn put_set_on_field(
     level: usize,
     options: &FieldOptions,
 ) -> Result<(), AllocError>
-    ensures { OnOk result
-        (string_bytes text.new ≡ string_bytes text.old
-        ++ spec.field_option_lines level (Some (field_options_view options.now))) }
+    ensures { Puts result text.old text.new
+        (spec.field_option_lines level (Some (field_options_view options.now))) }
 {
     put_settings(alloc, text, level, &field_settings(options))?;
     put_custom(alloc, text, level, &options.custom)
@@ -360,9 +311,8 @@ pub fn put_oneof_options(
     level: usize,
     options: &Option<OneofOptions>,
 ) -> Result<(), AllocError>
-    ensures { OnOk result
-        (string_bytes text.new ≡ string_bytes text.old
-        ++ spec.oneof_option_lines level (option_map oneof_options_view options.now)) }
+    ensures { Puts result text.old text.new
+        (spec.oneof_option_lines level (option_map oneof_options_view options.now)) }
 {
     match options {
         None => Ok(()),
@@ -378,9 +328,8 @@ pub fn put_enum_options(
     level: usize,
     options: &Option<EnumOptions>,
 ) -> Result<(), AllocError>
-    ensures { OnOk result
-        (string_bytes text.new ≡ string_bytes text.old
-        ++ spec.enum_option_lines level (option_map enum_options_view options.now)) }
+    ensures { Puts result text.old text.new
+        (spec.enum_option_lines level (option_map enum_options_view options.now)) }
 {
     match options {
         None => Ok(()),
@@ -399,9 +348,8 @@ pub fn put_enum_value_options(
     level: usize,
     options: &Option<EnumValueOptions>,
 ) -> Result<(), AllocError>
-    ensures { OnOk result
-        (string_bytes text.new ≡ string_bytes text.old
-        ++ spec.enum_value_option_lines level (option_map enum_value_options_view options.now)) }
+    ensures { Puts result text.old text.new
+        (spec.enum_value_option_lines level (option_map enum_value_options_view options.now)) }
 {
     match options {
         None => Ok(()),
@@ -425,9 +373,8 @@ pub fn put_service_options(
     level: usize,
     options: &Option<ServiceOptions>,
 ) -> Result<(), AllocError>
-    ensures { OnOk result
-        (string_bytes text.new ≡ string_bytes text.old
-        ++ spec.service_option_lines level (option_map service_options_view options.now)) }
+    ensures { Puts result text.old text.new
+        (spec.service_option_lines level (option_map service_options_view options.now)) }
 {
     match options {
         None => Ok(()),
@@ -451,9 +398,8 @@ pub fn put_method_options(
     level: usize,
     options: &Option<MethodOptions>,
 ) -> Result<(), AllocError>
-    ensures { OnOk result
-        (string_bytes text.new ≡ string_bytes text.old
-        ++ spec.method_option_lines level (option_map method_options_view options.now)) }
+    ensures { Puts result text.old text.new
+        (spec.method_option_lines level (option_map method_options_view options.now)) }
 {
     match options {
         None => Ok(()),

@@ -10,5 +10,5 @@ unfolding field_lines_after
 returns c =
     on_ok_then c.put_field_options.result
     (appended_labelled _ _ (codes "field ") _ _ _ (field_words_is (field_view c.args.field.now))
-    (rw c.field_words.ensures at c.in_ok-begin_line.ensures) c.in_ok-put_after_label.ensures)
+    c.in_ok-begin_field.ensures c.in_ok-put_after_label.ensures)
     c.put_field_options.ensures

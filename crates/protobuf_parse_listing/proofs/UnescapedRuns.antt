@@ -1,4 +1,4 @@
--- From the mask of a run of bytes to whether they are plain, and from runs to the whole text.
+-- From the mask of a run of bytes to whether they are unescaped, and from runs to the whole text.
 use Rattle.std.proofs.Common.{◌≡◌, ℕ, zero, suc, ◌+◌, ◌*◌, ◌%◌, ◌^◌, ◌≤◌, Bool, true, false}
 use Rattle.std.proofs.Common.{not, ◌&&◌, cond, List, [], ◌∷◌, map, length, take, drop, nat_eq}
 use Rattle.std.proofs.Common.{Fits, w8}
