@@ -1,12 +1,11 @@
 -- Parts of paths, and which include decides.
 use Rattle.std.specs.Prelude.{if◌then◌else◌, bytes_eq}
 use Rattle.std.proofs.Common.{◌≡◌, ◌∙◌, ap, sym, refl, inl, inr, ℕ, ◌+◌, ◌-◌, ◌<◌, ◌≤◌, arith, not}
-use Rattle.std.proofs.Common.{Bool, true, false, List, [], ◌∷◌, ◌++◌, Bor, append-nil, drop, get_or}
-use Rattle.std.proofs.Common.{length, length-drop, map, take, flat_map, find, Some, None}
-use Rattle.std.proofs.lemmas.List.{at_drop_more, drop_all, flat_map_more, length-map, map-append}
-use Rattle.std.proofs.lemmas.List.{take_all, take-append-drop, take_more}
+use Rattle.std.proofs.Common.{Bool, true, false, List, [], ◌∷◌, ◌++◌, Bor, drop, get_or}
+use Rattle.std.proofs.Common.{length, length-drop, map, take, find, Some, None}
+use Rattle.std.proofs.lemmas.List.{at_drop_more, drop_all, length-map, map-append}
+use Rattle.std.proofs.lemmas.List.{take_all, take-append-drop}
 use Rattle.std.proofs.lemmas.Bool.{cond-false, cond-true}
-use Rattle.protobuf_parse_base.specs.Paths.{joined}
 use Rattle.protobuf_parse_base.specs.declared.proto_path.error.PathError.{PathError}
 use Rattle.protobuf_parse_base.specs.declared.proto_path.error.PathError.TheVariants as path
 use Rattle.protobuf_parse_model.specs.Descriptors.{Text}
@@ -18,27 +17,6 @@ use Rattle.protobuf_parse.specs.Includes.{AreNamed, unnamed, named_as}
 use Rattle.protobuf_parse.specs.IncludeParts.{IsMisnamed}
 use Rattle.protobuf_parse.specs.Includes.{StandsAtFirst, StandsAtInput, is_unnamed}
 use Rattle.protobuf_parse.specs.Includes.{naming_of, part_views, parts_after}
-use Rattle.protobuf_parse.specs.IncludeParts.{part_behind}
-
--- the parts behind the first, each after a slash
-pub joined-spread : (first : Text) (parts : List Text)
-    → joined (first ∷ parts) ≡ first ++ flat_map part_behind parts
-joined-spread first [] = sym (append-nil first)
-joined-spread first (next ∷ parts) =
-    ap (λ (r : List ℕ). first ++ (47 ∷ r)) (joined-spread next parts)
-
--- one more part, after a slash
-pub appended-part : (xs : List (Bor (List ℕ))) (k : ℕ) (d : Bor (List ℕ)) (start old new : List ℕ)
-    → k < length xs → old ≡ start ++ flat_map part_behind (part_views (take k xs))
-    → new ≡ old ++ part_behind (get_or xs k d).now
-    → new ≡ start ++ flat_map part_behind (part_views (take (k + 1) xs))
-appended-part xs k d start old new lt before one =
-    let next : part_views (take (k + 1) xs) ≡ part_views (take k xs) ++ (get_or xs k d).now ∷ [] =
-    ap part_views (take_more xs k d lt)
-    ∙ map-append (λ (p : Bor (List ℕ)). p.now) (take k xs) (get_or xs k d ∷ []) in
-    one ∙ (ap (λ (z : List ℕ). z ++ part_behind (get_or xs k d).now) before
-    ∙ (flat_map_more part_behind start (part_views (take k xs)) (get_or xs k d).now
-    ∙ ap (λ (z : List Text). start ++ flat_map part_behind z) (sym next)))
 
 -- no part is left to compare
 none-after : (front : List Text) → 0 < length front → parts_after front [] ≡ None
@@ -111,15 +89,6 @@ parts_after-all front parts i le ge same =
     (drop_all i front le) in
     ap (λ (z : List (Bor (List ℕ))). Some (part_views z)) whole
     ∙ (ap (λ (n : ℕ). Some (part_views (drop n parts))) e ∙ (sym here ∙ same))
-
-pub joined-of : (all : List (Bor (List ℕ))) (first : Bor (List ℕ)) (others : List (Bor (List ℕ)))
-    (text new : List ℕ) → all ≡ first ∷ others
-    → text ≡ first.now → new ≡ text ++ flat_map part_behind (part_views others)
-    → new ≡ joined (part_views all)
-joined-of all first others text new split one rest =
-    rest ∙ (ap (λ (t : List ℕ). t ++ flat_map part_behind (part_views others)) one
-    ∙ (sym (joined-spread first.now (part_views others))
-    ∙ ap (λ (z : List (Bor (List ℕ))). joined (part_views z)) (sym split)))
 
 -- L11 is told of an input whose rest is no proto path
 pub misnamed-stands : (includes : List Text) (input : Text) (why : PathError) (f : RunFault)

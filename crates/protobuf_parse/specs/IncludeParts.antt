@@ -1,8 +1,7 @@
 -- No public clause rests on this file.
 -- The parts of paths, as the code sees them, and the faults of includes and of names.
-use Rattle.std.specs.Prelude.{◌≡◌, ℕ, List, ◌∷◌, Option, option_map, string_bytes}
+use Rattle.std.specs.Prelude.{◌≡◌, ℕ, List, Option, option_map, string_bytes}
 use Rattle.std.specs.Borrow.{Bor}
-use Rattle.protobuf_parse_base.specs.Characters as char
 use Rattle.protobuf_parse_base.specs.declared.proto_path.error.PathError.{PathError}
 use Rattle.protobuf_parse_model.specs.Descriptors.{Text}
 use Rattle.protobuf_parse_run.specs.declared.fault.RunFault.{RunFault}
@@ -11,10 +10,6 @@ use Rattle.protobuf_parse.specs.Includes.{includes_text, part_views}
 
 abbrev pub rest_parts_view : Option (Bor (List (Bor (List ℕ)))) → Option (List Text)
 rest_parts_view rest = option_map (λ (r : Bor (List (Bor (List ℕ)))). part_views r.now) rest
-
--- a part behind another
-abbrev pub part_behind : Text → Text
-part_behind part = char.slash ∷ part
 
 -- L3 for these includes and this input
 abbrev pub IsOutside : List Text → Text → RunFault → Type 0

@@ -1,16 +1,17 @@
 //! Which constants options and fields take.
 
+use protobuf_parse_model::{C_TYPES, IDEMPOTENCY_LEVELS, JS_TYPES, OPTIMIZE_MODES};
 use protobuf_parse_syntax::{Scalar, Type};
 use std::alloc::{AllocError, Global};
 
 /// Which values the built-in option of that name has, as messages say it, whatever it is an option
 /// of.
-pub fn values_of_option(name: &str) -> &'static str {
+pub fn values_of_option(alloc: Global, name: &str) -> Result<String, AllocError> {
     match name {
-        "optimize_for" => "SPEED, CODE_SIZE or LITE_RUNTIME",
-        "ctype" => "STRING, CORD or STRING_PIECE",
-        "jstype" => "JS_NORMAL, JS_STRING or JS_NUMBER",
-        "idempotency_level" => "IDEMPOTENCY_UNKNOWN, NO_SIDE_EFFECTS or IDEMPOTENT",
+        "optimize_for" => alternatives(alloc, OPTIMIZE_MODES),
+        "ctype" => alternatives(alloc, C_TYPES),
+        "jstype" => alternatives(alloc, JS_TYPES),
+        "idempotency_level" => alternatives(alloc, IDEMPOTENCY_LEVELS),
         "java_package"
         | "java_outer_classname"
         | "go_package"
@@ -20,9 +21,22 @@ pub fn values_of_option(name: &str) -> &'static str {
         | "php_class_prefix"
         | "php_namespace"
         | "php_metadata_namespace"
-        | "ruby_package" => "a string",
-        _ => "`true` or `false`",
+        | "ruby_package" => String::from_str(alloc, "a string"),
+        _ => String::from_str(alloc, "`true` or `false`"),
     }
+}
+
+/// The words of a table: `A, B or C`.
+fn alternatives<T>(alloc: Global, words: &[(&str, T)]) -> Result<String, AllocError> {
+    let mut text = String::new(alloc);
+    for (position, (word, _)) in words.iter().enumerate() {
+        if position > 0 {
+            let is_last = position == words.len() - 1;
+            text.push_str(if is_last { " or " } else { ", " })?;
+        }
+        text.push_str(word)?;
+    }
+    Ok(text)
 }
 
 /// Which constants a field of the type takes, as messages say it.

@@ -64,7 +64,7 @@ pub fn meaning_diagnostic(
     let at = trees.at_origin(origin);
     match subject_at(alloc, &trees, &known, at)? {
         Some(subject) => subject.diagnostic(alloc, origin, error, &mut Hints::new(alloc)),
-        None => plain_diagnostic(alloc, origin, error),
+        None => error_diagnostic(alloc, origin, error),
     }
 }
 
@@ -104,7 +104,7 @@ fn told_of<'a>(
     for error in &report.faults {
         told.push(match &subject {
             Some(subject) => subject.diagnostic(alloc, origin, error, &mut hints)?,
-            None => plain_diagnostic(alloc, origin, error)?,
+            None => error_diagnostic(alloc, origin, error)?,
         })?;
     }
     Ok(told)
@@ -124,12 +124,12 @@ fn subject_at<'s, 'k, 't, 'a>(
 }
 
 /// What is told of the fault by itself.
-fn plain_diagnostic(
+fn error_diagnostic(
     alloc: Global,
     origin: &str,
     error: &ElabError,
 ) -> Result<Diagnostic, AllocError> {
-    let sentence = plain_sentence(alloc, error)?;
+    let sentence = error_sentence(alloc, error)?;
     told_at(
         alloc,
         meaning_code(error.kind),
@@ -179,7 +179,7 @@ impl<'s, 'k, 't, 'a> Subject<'s, 'k, 't, 'a> {
             }
             _ => hints.hint(alloc, &self.sight, error)?,
         };
-        let Sentence { message, help } = plain_sentence(alloc, error)?;
+        let Sentence { message, help } = error_sentence(alloc, error)?;
         let sentence = Sentence {
             message,
             help: found.or(help),
@@ -211,7 +211,7 @@ fn first_one(
 }
 
 /// What is said of the fault by itself.
-fn plain_sentence(alloc: Global, error: &ElabError) -> Result<Sentence, AllocError> {
+fn error_sentence(alloc: Global, error: &ElabError) -> Result<Sentence, AllocError> {
     match error.kind {
         ElabErrorKind::DuplicateName
         | ElabErrorKind::NotFoundByAbsPath
@@ -284,7 +284,7 @@ fn builtin_sentence(alloc: Global, error: &ElabError) -> Result<Sentence, AllocE
             });
         }
         ElabErrorKind::InconvertibleValue => {
-            let values = values_of_option(what);
+            let values = values_of_option(alloc, what)?;
             format!(in alloc; "`{what}` takes {values}")?
         }
         _ => String::from_str(alloc, "`uninterpreted_option` cannot be set")?,

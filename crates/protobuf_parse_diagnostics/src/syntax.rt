@@ -90,7 +90,7 @@ pub fn syntax_sentence(
             let message = format!(in alloc; "{shown} is no path of a file: {why} ({code})")?;
             Ok(Sentence::new(message))
         }
-        _ => plain_sentence(alloc, fault),
+        _ => fault_sentence(alloc, fault),
     }
 }
 
@@ -175,7 +175,7 @@ fn label_sentence(alloc: Global, token: Option<&str>) -> Result<Sentence, AllocE
 }
 
 /// Of faults that need not be looked up in the text.
-fn plain_sentence(alloc: Global, fault: ParserError) -> Result<Sentence, AllocError> {
+fn fault_sentence(alloc: Global, fault: ParserError) -> Result<Sentence, AllocError> {
     match fault {
         ParserError::NestingTooDeep => {
             Sentence::fixed(alloc, "more than 100 brackets are open inside one another")

@@ -51,7 +51,7 @@ pub fn no_message(alloc: Global, name: &str) -> Result<DescriptorProto, AllocErr
     })
 }
 
-pub fn plain_field(alloc: Global, name: &str) -> Result<FieldDescriptorProto, AllocError> {
+pub fn bool_field(alloc: Global, name: &str) -> Result<FieldDescriptorProto, AllocError> {
     Ok(FieldDescriptorProto {
         name: Name::new(alloc, name)?,
         number: 1,
@@ -144,8 +144,8 @@ fn full_oneofs(alloc: Global) -> Result<Vec<OneofDescriptorProto>, AllocError> {
     one(alloc, full_oneof(alloc)?)
 }
 
-fn plain_fields(alloc: Global, name: &str) -> Result<Vec<FieldDescriptorProto>, AllocError> {
-    one(alloc, plain_field(alloc, name)?)
+fn bool_fields(alloc: Global, name: &str) -> Result<Vec<FieldDescriptorProto>, AllocError> {
+    one(alloc, bool_field(alloc, name)?)
 }
 
 fn no_messages(alloc: Global, name: &str) -> Result<Vec<DescriptorProto>, AllocError> {
@@ -195,7 +195,7 @@ fn with_extensions(
     alloc: Global,
     mut message: DescriptorProto,
 ) -> Result<DescriptorProto, AllocError> {
-    message.extension = plain_fields(alloc, "y")?;
+    message.extension = bool_fields(alloc, "y")?;
     Ok(message)
 }
 

@@ -1,6 +1,6 @@
 //! Descriptor sets of descriptors made by hand, as no schema gives them.
 
-use crate::listed::{no_file, no_message, one, plain_field, text};
+use crate::listed::{bool_field, no_file, no_message, one, text};
 use protobuf_parse::{
     DescriptorProto, EnumDescriptorProto, EnumOptions, ExtensionRange, FieldDescriptorProto,
     FileDescriptorProto, Name, OneofDescriptorProto, descriptor_set,
@@ -49,7 +49,7 @@ fn of_nothing(rt: HostRuntime) -> Result<(), Fail> {
 }
 
 fn least_field(alloc: Global) -> Result<Vec<FieldDescriptorProto>, AllocError> {
-    let mut field = plain_field(alloc, "")?;
+    let mut field = bool_field(alloc, "")?;
     field.number = i32::MIN;
     field.oneof_index = Some(i32::MAX);
     one(alloc, field)
@@ -111,7 +111,7 @@ fn fields_of(
 ) -> Result<Vec<FieldDescriptorProto>, AllocError> {
     let mut made = Vec::new(alloc);
     for (index, proto3_optional) in fields {
-        let mut field = plain_field(alloc, "")?;
+        let mut field = bool_field(alloc, "")?;
         field.oneof_index = Some(*index);
         field.proto3_optional = *proto3_optional;
         made.push(field)?;
@@ -206,7 +206,7 @@ fn of_messages_inside_one_another(rt: HostRuntime) -> Result<(), Fail> {
 fn wide(alloc: Global, count: u32) -> Result<DescriptorProto, AllocError> {
     let mut message = no_message(alloc, "")?;
     for _ in 0..count {
-        message.field.push(plain_field(alloc, "f")?)?;
+        message.field.push(bool_field(alloc, "f")?)?;
     }
     Ok(message)
 }
@@ -223,7 +223,7 @@ fn of_many_fields(rt: HostRuntime) -> Result<(), Fail> {
 
 fn odd_extension(alloc: Global) -> Result<Vec<FieldDescriptorProto>, AllocError> {
     let extendee = text(alloc, "")?;
-    let mut field = plain_field(alloc, "")?;
+    let mut field = bool_field(alloc, "")?;
     field.extendee = Some(extendee);
     one(alloc, field)
 }

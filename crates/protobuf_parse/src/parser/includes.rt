@@ -1,7 +1,7 @@
 //! How inputs get their proto paths: the first include that is a front of an input is taken off.
 
 ghost use Rattle.std.specs.Prelude.{◌≡◌, IfOk, IfErr, OnOk, ◌++◌, flat_map, map, string_bytes};
-ghost use Rattle.protobuf_parse_base.specs.Paths.{joined, kept_parts};
+ghost use Rattle.protobuf_parse_base.specs.Paths.{kept_parts};
 ghost use Rattle.protobuf_parse_base.specs.PathViews.{path_buf_text};
 ghost use Rattle.protobuf_parse_run.specs.Run.{OrMemory};
 ghost use Rattle.protobuf_parse.specs.Includes.{AreNamed, StandsAtFirst};
@@ -9,12 +9,11 @@ ghost use Rattle.protobuf_parse.specs.IncludeParts.{IsMisnamed, IsOutside};
 ghost use Rattle.protobuf_parse.specs.Includes.{StandsAtInput, includes_text, left_by, left_of};
 ghost use Rattle.protobuf_parse.specs.Includes.{named_as, naming_of, naming_of_rest, next_include};
 ghost use Rattle.protobuf_parse.specs.Includes.{part_views, parts_after};
-ghost use Rattle.protobuf_parse.specs.IncludeParts.{part_behind};
 ghost use Rattle.protobuf_parse.specs.Includes.{quoted_include};
 ghost use Rattle.protobuf_parse.specs.Includes.{unnamed};
 ghost use Rattle.protobuf_parse.specs.IncludeParts.{rest_parts_view};
 
-use protobuf_parse_base::proto_path::{PathError, ProtoPathBuf};
+use protobuf_parse_base::proto_path::{PathError, ProtoPathBuf, join_parts, kept_parts};
 use protobuf_parse_run::RunFault;
 use std::alloc::{AllocError, Global};
 
@@ -55,7 +54,7 @@ pub fn proto_path_of(
     ensures stands { IfErr result (λ f.
         OrMemory f (StandsAtInput (map string_bytes includes.now) input.now f)) }
 {
-    let parts = parts_of(alloc, input)?;
+    let parts = kept_parts(alloc, input)?;
     match left_of_parts(alloc, includes, input, &parts)? {
         Some(rest) => match name_of_rest(alloc, rest) {
             Ok(name) => Ok(name),
@@ -167,7 +166,7 @@ fn left_by_include<'p, 'a>(
     if include.starts_with('/') != input.starts_with('/') {
         return Ok(None);
     }
-    let front = parts_of(alloc, include)?;
+    let front = kept_parts(alloc, include)?;
     Ok(after_front(&front, parts))
 }
 
@@ -183,19 +182,6 @@ fn after_front<'p, 'a>(front: &[&str], parts: &'p [&'a str]) -> Option<&'p [&'a 
     Some(&parts[front.len()..])
 }
 
-/// The parts of a path: what stands between slashes, without the empty ones and `.`.
-fn parts_of<'a>(alloc: Global, path: &'a str) -> Result<Vec<&'a str>, AllocError>
-    ensures { IfOk result (λ v. part_views v.items ≡ kept_parts path.now) }
-{
-    let mut parts = Vec::new(alloc);
-    for part in path.split('/') {
-        if !part.is_empty() && part != "." {
-            parts.push(part)?;
-        }
-    }
-    Ok(parts)
-}
-
 /// The proto path of these parts, or why they are none.
 fn name_of_rest(alloc: Global, parts: &[&str]) -> Result<ProtoPathBuf, PathError>
     ensures named { IfOk result (λ path.
@@ -207,35 +193,4 @@ fn name_of_rest(alloc: Global, parts: &[&str]) -> Result<ProtoPathBuf, PathError
         return Err(PathError::Memory);
     };
     ProtoPathBuf::from_path(alloc, &text)
-}
-
-/// The parts with slashes between them.
-fn join_parts(alloc: Global, parts: &[&str]) -> Result<String, AllocError>
-    ensures { IfOk result (λ s. string_bytes s ≡ joined (part_views parts.now)) }
-{
-    let Some((first, others)) = parts.split_first() else {
-        return Ok(String::new(alloc));
-    };
-    let mut text = String::from_str(alloc, first)?;
-    put_next_parts(&mut text, others)?;
-    Ok(text)
-}
-
-/// Adds each part, after a slash.
-fn put_next_parts(text: &mut String, parts: &[&str]) -> Result<(), AllocError>
-    ensures { OnOk result (string_bytes text.new
-        ≡ string_bytes text.old ++ flat_map part_behind (part_views parts.now)) }
-{
-    for part in parts {
-        put_next_part(text, part)?;
-    }
-    Ok(())
-}
-
-/// Adds the part, after a slash.
-fn put_next_part(text: &mut String, part: &str) -> Result<(), AllocError>
-    ensures { OnOk result (string_bytes text.new ≡ string_bytes text.old ++ part_behind part.now) }
-{
-    text.push_str("/")?;
-    text.push_str(part)
 }

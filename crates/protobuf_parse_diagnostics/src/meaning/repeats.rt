@@ -5,7 +5,7 @@ use crate::imports::{FirstImport, first_imports};
 use crate::loading::told_at;
 use crate::meaning::hints::push_site;
 use crate::meaning::known::{KnownFile, known_files};
-use crate::meaning::{meaning_code, plain_sentence};
+use crate::meaning::{error_sentence, meaning_code};
 use crate::outline::{Declared, DeclaredKind};
 use crate::sources::Trees;
 use crate::syntax::Sentence;
@@ -203,7 +203,7 @@ fn repeat_diagnostic(
     if sites.own.is_some() {
         help.push_str(" too")?;
     }
-    let Sentence { message, .. } = plain_sentence(alloc, &error)?;
+    let Sentence { message, .. } = error_sentence(alloc, &error)?;
     let sentence = Sentence {
         message,
         help: Some(help),

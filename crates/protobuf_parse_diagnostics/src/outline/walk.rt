@@ -201,12 +201,12 @@ fn walk_field<'a>(
     field: &'a FieldStatement,
 ) -> Result<(), AllocError> {
     match field {
-        FieldStatement::Field(field) => walk_plain_field(alloc, outline, scope, kind, field),
+        FieldStatement::Field(field) => walk_normal_field(alloc, outline, scope, kind, field),
         FieldStatement::Group(group) => walk_group(alloc, outline, scope, kind, group),
     }
 }
 
-fn walk_plain_field<'a>(
+fn walk_normal_field<'a>(
     alloc: Global,
     outline: &mut Outline<'a>,
     scope: Scope<'_>,
