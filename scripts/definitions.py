@@ -15,7 +15,7 @@ from pathlib import Path
 
 PAGE = Path("docs/definitions.md")
 MARK = "-- No public clause rests on this file.\n"
-CRATES = "base lexer syntax model elaboration wire options descriptor_set listing rules index".split()
+CRATES = "base grammar lexer syntax model elaboration wire options descriptor_set listing rules index".split()
 CRATES += ["run", ""]
 TOKEN = re.compile(r"[^\s(){};,λ\[\]`:!&]+")
 USE = r"(?:^|(?<=\n))\s*(?:ghost |pub |unfoldable )*use (Rattle\.[^\s{;]+?)"
