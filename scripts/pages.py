@@ -5,10 +5,11 @@
 
 Run it at the top of the repository. Each link leads to a file, each path of the repository that a
 page names is there, and each definition, function and case of docs/HOUSE.md; no page is longer than
-it may be, and docs/MUTANTS.md is what the edits say. With --run the commands of README.md and docs/TUTORIAL.md are run, one after the other, in a copy of the
-repository with the files that the pages show: those that begin with `cd`, `rt try`, `out/`, `protoc`,
-`cat`, `echo` or `mkdir`. Programs in out/ are those that `rt run` has built. The status is 1 if
-anything is wrong.
+it may be, the modules of docs/definitions.md are in the crates of their sections, and docs/MUTANTS.md
+is what the edits say. With --run the commands of README.md and docs/TUTORIAL.md are run, one after
+the other, in a copy of the repository with the files that the pages show: those that begin with `cd`,
+`rt try`, `out/`, `protoc`, `cat`, `echo` or `mkdir`. Programs in out/ are those that `rt run` has
+built. The status is 1 if anything is wrong.
 """
 
 import re
@@ -55,6 +56,21 @@ def wrong_rooms():
                 yield f"docs/HOUSE.md: no {cell}"
             elif found.group(2) and found.group(2) not in path.read_text():
                 yield f"docs/HOUSE.md: {path} has no {found.group(2)}"
+
+
+def wrong_modules():
+    """Names in docs/definitions.md that stand neither in the crate of their section nor below it."""
+    texts = {}
+    for path in Path("crates").glob("*/*/*.antt"):
+        crate = texts.setdefault(path.parts[1], [])
+        crate += [path.stem, *re.findall(r"[\w-]+", path.read_text())]
+    for section in Path("docs/definitions.md").read_text().split("\n## ")[1:]:
+        title, _, rest = section.partition("\n")
+        crates = re.findall(r"`(protobuf_parse\w*)`", section)
+        known = {word for crate in crates for word in texts.get(crate, [])}
+        for name in re.findall(r"`([A-Z]\w+)`(?!, section)", rest) if "protobuf_parse" in title else []:
+            if name not in known:
+                yield f"docs/definitions.md: {title}: no {name}"
 
 
 def steps(text):
@@ -119,7 +135,7 @@ def main():
         words, most = len(text.split()), MOST_WORDS.get(str(page))
         if most and words > most:
             wrong.append(f"{page}: {words} words, and {most} are enough")
-    wrong += wrong_rooms()
+    wrong += [*wrong_rooms(), *wrong_modules()]
     if subprocess.run([sys.executable, "scripts/mutants.py", "--check"]).returncode != 0:
         wrong.append("docs/MUTANTS.md: scripts/mutants.py writes another page")
     if "--run" in sys.argv:

@@ -62,8 +62,8 @@ pub fn check_files<R: Files + AllocGlobal>(
     })
 }
 
-/// The run over the inputs. Where it has a fault, all that is wrong is told, and the run is that over
-/// the inputs that reach nothing wrong. Answers also whether there may be more to tell.
+/// The run over the inputs. Where it has a fault, all that is wrong is told, and the run is that
+/// over the inputs that reach nothing wrong. Answers also whether there may be more to tell.
 fn run_over<R: Files + AllocGlobal>(
     rt: &R,
     alloc: Global,

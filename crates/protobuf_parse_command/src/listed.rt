@@ -2,10 +2,11 @@
 
 use crate::arguments::Arguments;
 use crate::inputs::input_of;
-use crate::reading::{Folders, ReadFile};
+use crate::reading::Folders;
 use crate::unread::fault_told;
 use protobuf_parse::{ReadEntry, RunFault, RunInput, bundled_files};
 use protobuf_parse_diagnostics::{Diagnostic, Sources, arrange};
+use protobuf_parse_run::InputRead;
 use protobuf_parse_syntax::{FileStatement, FileTree, ImportVis};
 use std::alloc::{AllocError, Global};
 use std::rt::Files;
@@ -60,7 +61,7 @@ fn add_input<R: Files + AllocGlobal>(
     input: &RunInput,
     imports: &mut Imports,
 ) -> Result<(), AllocError> {
-    let ReadFile { entry, tree } = folders.read(alloc, input)?;
+    let InputRead { entry, tree } = folders.read(alloc, input)?;
     match tree {
         Ok(tree) => put_imports(&mut imports.text, file, &tree),
         Err(fault) => add_fault(rt, alloc, slice::from_ref(&entry), &fault, imports),

@@ -1,7 +1,8 @@
 //! What keeps files from being loaded, of all that the inputs reach.
 
-use crate::reading::{Folders, ReadFile};
+use crate::reading::Folders;
 use protobuf_parse::{ProtoPathBuf, ReadEntry, RunFault, RunInput};
+use protobuf_parse_run::InputRead;
 use protobuf_parse_syntax::{FileStatement, FileTree};
 use std::alloc::{AllocError, Global};
 use std::collections::BTreeSet;
@@ -56,8 +57,8 @@ impl Survey {
         Ok(())
     }
 
-    fn add(&mut self, alloc: Global, read: ReadFile) -> Result<(), AllocError> {
-        let ReadFile { entry, tree } = read;
+    fn add(&mut self, alloc: Global, read: InputRead) -> Result<(), AllocError> {
+        let InputRead { entry, tree } = read;
         self.reads.push(entry)?;
         match tree {
             Ok(tree) => self.ask_imports(alloc, &tree),

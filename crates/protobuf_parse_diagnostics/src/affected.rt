@@ -66,8 +66,8 @@ fn all_that_reach(
     Ok(affected)
 }
 
-/// The proto path of the file that the fault is of, or that is missing, among the files that the run
-/// read. None where the fault is of an input at a path of its own.
+/// The proto path of the file that the fault is of, or that is missing, among the files that the
+/// run read. None where the fault is of an input at a path of its own.
 pub fn fault_path<'a>(sources: &Sources<'a>, fault: &'a RunFault) -> Option<&'a str> {
     match fault {
         RunFault::Parse(origin, _) | RunFault::Elaborate(origin, _) => {

@@ -12,7 +12,8 @@ struct Repeated<'o, 'a> {
     first: &'o Declared<'a>,
 }
 
-/// The declarations of a file, each with the first one that is of its kind and its name in its body.
+/// The declarations of a file, each with the first one that is of its kind and its name in its
+/// body.
 #[derive(Drop)]
 pub struct Firsts<'o, 'a> {
     /// By their lines and columns.

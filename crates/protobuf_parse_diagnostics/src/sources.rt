@@ -114,24 +114,11 @@ fn end_of_text(content: &[u8]) -> Option<Place> {
 /// The file that a read gave, if it gave a text.
 fn source_of<'a>(entry: &'a ReadEntry, bundled: &'a [(&'a str, &'a str)]) -> Option<Source<'a>> {
     let path = entry.path.as_path().to_str();
-    match &entry.outcome {
-        ReadOutcome::Content { origin, content } => match str::from_utf8(content) {
-            Ok(text) => Some(Source { path, origin, text }),
-            Err(_) => None,
-        },
-        ReadOutcome::NotFound => bundled_source(path, bundled),
-        ReadOutcome::ResolverFault(_) | ReadOutcome::ReaderFault(_) => None,
+    let origin = entry.origin();
+    match str::from_utf8(entry.content(bundled)?) {
+        Ok(text) => Some(Source { path, origin, text }),
+        Err(_) => None,
     }
-}
-
-fn bundled_source<'a>(path: &'a str, bundled: &'a [(&'a str, &'a str)]) -> Option<Source<'a>> {
-    for (name, text) in bundled {
-        if *name == path {
-            let origin = path;
-            return Some(Source { path, origin, text });
-        }
-    }
-    None
 }
 
 /// The tree of a text, if it has one. The one error is that memory is short.

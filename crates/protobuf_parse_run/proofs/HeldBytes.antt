@@ -36,7 +36,8 @@ use Rattle.protobuf_parse_model.specs.Declarations.{Scope, inside, full_name}
 use Rattle.protobuf_parse_model.specs.Environment.{Environment, Customs, env_inside, customs_bytes}
 use Rattle.protobuf_parse_model.specs.OptionMessages.{message_options}
 use Rattle.protobuf_parse_model.proofs.Blaming.{among_left}
-use Rattle.protobuf_parse_elaboration.specs.Fields.{FieldOwner, of_message, field_of, field_statement_of}
+use Rattle.protobuf_parse_elaboration.specs.Fields.{FieldOwner, of_message, field_of}
+use Rattle.protobuf_parse_elaboration.specs.Fields.{field_statement_of}
 use Rattle.protobuf_parse_elaboration.specs.Enums.{enum_values, options_of_enum, value_of, enum_of}
 use Rattle.protobuf_parse_elaboration.specs.Services.{methods_in, options_of_service}
 use Rattle.protobuf_parse_elaboration.specs.Services.{options_of_method, method_of, service_of}

@@ -139,7 +139,8 @@ module _ (gathers : Bool) (legal : Legal) (files : Files) where
       let the = subst
       (λ (z : List (Text × Text)). IsTheTree (text_given z p (Some r.0.outcome)) None)
       (sym go.bundled) r.4 in
-      let is = tree-read gathers legal files kept loaded log chain p r.0 None g off none go.trees grown r.2
+      let is = tree-read gathers legal files kept loaded log chain p r.0 None g off none go.trees
+      grown r.2
       the in
       let stands = subst
       (λ (z : List (Text × Text)). StandsInLoad a p (Some r.0.outcome)

@@ -78,6 +78,15 @@ read_ends legal table asked p q old new o (Ok tree) e n ok other found t s =
 read_ends legal table asked p q old new o (Err f) e n ok other found t s =
     read_refused legal table asked p q old new o f e n ok (λ m. other (ap Err m)) t s
 
+-- the fault stands at the path of the entry, where that is the path that was asked
+pub read_stands : (table : List (Text × Text)) (asked : Asked) (p q : Text) (o : ReadOutcome)
+    (r : Result FileTree RunFault) → q ≡ p
+    → IfErr r (λ f. OrMemory f (StandsInLoad asked q (Some o) (text_given table q (Some o)) f))
+    → IfErr r (λ f. OrMemory f (StandsInLoad asked p (Some o) (text_given table p (Some o)) f))
+read_stands table asked p q o r e s =
+    subst (λ z. IfErr r
+    (λ f. OrMemory f (StandsInLoad asked z (Some o) (text_given table z (Some o)) f))) e s
+
 -- memory ran out before the read was noted
 pub read_breaks : (legal : Legal) (table : List (Text × Text)) (asked : Asked) (p : Text)
     (old new : List ReadEntry) (f : RunFault) → f ≡ fault.Memory → new ≡ old

@@ -9,17 +9,16 @@ use Rattle.protobuf_parse_lexer.specs.declared.lexer.token.Place.{Place}
 use Rattle.protobuf_parse_syntax.specs.Dependencies.{imports}
 use Rattle.protobuf_parse_syntax.specs.Trees.{FileSyntax, ImportSyntax}
 use Rattle.protobuf_parse_model.specs.Descriptors.{Text}
-use Rattle.protobuf_parse_model.specs.Faults.{Among, here, there, Blames, Fault, Wrong}
-use Rattle.protobuf_parse_model.specs.Faults.{fault_view}
+use Rattle.protobuf_parse_model.specs.Faults.{Among, here, there, Blames, Fault, Wrong, fault_view}
 use Rattle.protobuf_parse_model.specs.declared.error.ElabError.{ElabError}
 use Rattle.protobuf_parse_model.specs.declared.error.ElabFailure.{ElabFailure}
 use Rattle.protobuf_parse_model.specs.declared.error.ElabFailure.TheVariants as failure
 use Rattle.protobuf_parse_model.specs.LastDeclared.{last_declared}
 use Rattle.protobuf_parse_model.specs.Linking.{before_others, beginning, link_faults}
 use Rattle.protobuf_parse_elaboration.specs.FilesByPath.{AreDistinct, among, trees_at}
-use Rattle.protobuf_parse_run.specs.Repeats.{completing_import, is_nothing, is_of_extension, or_place}
-use Rattle.protobuf_parse_run.specs.Repeats.{declaring, out_of_reach, repeat_faults, repeat_place}
-use Rattle.protobuf_parse_run.specs.Repeats.{told_at}
+use Rattle.protobuf_parse_run.specs.Repeats.{completing_import, is_nothing, is_of_extension}
+use Rattle.protobuf_parse_run.specs.Repeats.{or_place, declaring, out_of_reach, repeat_faults}
+use Rattle.protobuf_parse_run.specs.Repeats.{repeat_place, told_at}
 use Rattle.protobuf_parse_run.specs.Run.{Files}
 use Rattle.protobuf_parse_run.specs.Loading.{LoadedEntry, file_at, named_trees, paths_in}
 use Rattle.protobuf_parse_run.specs.Walks.{import_paths}

@@ -166,7 +166,8 @@ module _ (one other : Customs) where
       (ap (λ (d : FieldDescriptor). d.options) h)) nothing_told
 
   grouped_told : (env : Environment) (within : Scope) (s : FieldStatementSyntax)
-      → field_statement_of (by_one env) of_message s ≡ field_statement_of (by_other env) of_message s
+      → field_statement_of (by_one env) of_message s
+      ≡ field_statement_of (by_other env) of_message s
       → Told (sets_in_group env.scope within s)
   grouped_told env within (field f) h = field_told env of_message f h
   grouped_told env within (group at label name number fields) h = nothing_told

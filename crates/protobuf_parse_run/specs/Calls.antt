@@ -124,7 +124,8 @@ MeetsAt may_answer may_read sources input asked path old new result =
     let chain = chain_texts old.chain.items in
     GoesOn files (rows sources.bundled.now) new.reads.items
     → Good sources.gathers legal files kept old.loaded.entries old.reads.items chain
-    → Meets sources.gathers legal files kept input asked chain path old.loaded.entries new.reads.items result
+    → Meets sources.gathers legal files kept input asked chain path old.loaded.entries
+    new.reads.items result
 
 -- What comes of meeting a file: nothing more is loaded, one meeting is counted, and at most one
 -- read
@@ -141,9 +142,9 @@ pub record MeetsFile {R I : Type 0} (may_answer : R → MayResolve) (may_read : 
       (chain_texts new.chain.items) new.reads.items result
   pub leaves : MeetsAt may_answer may_read sources input asked path old new result
 
--- What comes of closing a frame: its file leaves the end of the chain and is loaded, as what its
--- tree becomes; or the fault stands there. Nothing is read and nothing is met.
-pub record ClosesFrame (gathers : Bool) (frame : LoadFrame) (old new : Loader)
+-- What comes of elaborating the file of a frame: it leaves the end of the chain and is loaded, as
+-- what its tree becomes; or the fault stands there. Nothing is read and nothing is met.
+pub record ElaboratesFrame (gathers : Bool) (frame : LoadFrame) (old new : Loader)
     (result : Result LoadedAs RunFault) : Type 0 where
   pub reads : new.reads ≡ old.reads
   pub meets : new.meets ≡ old.meets

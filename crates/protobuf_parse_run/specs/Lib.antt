@@ -14,3 +14,4 @@ pub mod ReadBack
 pub mod TypeNames
 pub mod Order
 pub mod PlainRuns
+pub mod OneRead

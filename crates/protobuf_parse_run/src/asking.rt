@@ -7,8 +7,7 @@ ghost use Rattle.protobuf_parse_base.specs.PathViews.{path_buf_text};
 ghost use Rattle.protobuf_parse_syntax.specs.Parsing.{HasTree};
 ghost use Rattle.protobuf_parse_syntax.specs.Trees.{FileSyntax, file_syntax};
 ghost use Rattle.protobuf_parse_run.specs.Run.{Resolved, WasRead, StandsInLoad, origin_given};
-ghost use Rattle.protobuf_parse_run.specs.Run.{row_of};
-ghost use Rattle.protobuf_parse_run.specs.Run.{rows, fault_said, text_given, IsTheTree};
+ghost use Rattle.protobuf_parse_run.specs.Run.{row_of, rows, fault_said, text_given, IsTheTree};
 ghost use Rattle.protobuf_parse_run.specs.Loading.{asked_by, legal_by, CanGive, IsUnreadable};
 ghost use Rattle.protobuf_parse_run.specs.Run.{OrMemory};
 ghost use Rattle.protobuf_parse_run.specs.Loading.{IsUnfound, IsUnresolved, IsParseFault};
@@ -83,33 +82,36 @@ fn bundled_text<'a>(bundled: &[(&'a str, &'a str)], path: &str) -> Option<&'a st
     None
 }
 
-/// The bytes that an answer gives for a path, if it gives any.
-pub fn content<'a>(entry: &'a ReadEntry, bundled: &[(&'a str, &'a str)]) -> Option<&'a [u8]>
-    ensures { option_map (λ (b : Bor (List ℕ)). b.now) result
-        ≡ text_given (rows bundled.now) (path_buf_text entry.now.path) (Some entry.now.outcome) }
-{
-    match &entry.outcome {
-        ReadOutcome::Content { content, .. } => Some(content.as_slice()),
-        ReadOutcome::NotFound => match bundled_text(bundled, entry.path.as_path().to_str()) {
-            Some(text) => Some(text.as_bytes()),
-            None => None,
-        },
-        _ => None,
+impl ReadEntry {
+    /// The bytes of the file: the content that was answered, or the text of the first bundled file
+    /// of this path where the resolver has none. `bundled` is the table that the run was given.
+    pub fn content<'a>(&'a self, bundled: &[(&'a str, &'a str)]) -> Option<&'a [u8]>
+        ensures { option_map (λ (b : Bor (List ℕ)). b.now) result
+            ≡ text_given (rows bundled.now) (path_buf_text self.now.path) (Some self.now.outcome) }
+    {
+        match &self.outcome {
+            ReadOutcome::Content { content, .. } => Some(content.as_slice()),
+            ReadOutcome::NotFound => match bundled_text(bundled, self.path.as_path().to_str()) {
+                Some(text) => Some(text.as_bytes()),
+                None => None,
+            },
+            _ => None,
+        }
     }
-}
 
-/// What faults call the file that a read gave.
-pub fn origin(entry: &ReadEntry) -> &str
-    ensures { result.now ≡ origin_given (path_buf_text entry.now.path) (Some entry.now.outcome) }
-{
-    match &entry.outcome {
-        ReadOutcome::Content { origin, .. } => origin.as_str(),
-        _ => entry.path.as_path().to_str(),
+    /// What faults call the file: where it was found, or else its proto path.
+    pub fn origin(&self) -> &str
+        ensures { result.now ≡ origin_given (path_buf_text self.now.path) (Some self.now.outcome) }
+    {
+        match &self.outcome {
+            ReadOutcome::Content { origin, .. } => origin.as_str(),
+            _ => self.path.as_path().to_str(),
+        }
     }
 }
 
 /// The tree of the file that a read gave, or why the read gives none.
-pub fn opened<R: ProtoPathResolver, I>(
+pub fn tree_given<R: ProtoPathResolver, I>(
     alloc: Global,
     sources: &Sources<'_, R, I>,
     path: &str,

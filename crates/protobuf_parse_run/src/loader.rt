@@ -1,16 +1,15 @@
 //! Loading: each file once, its imports first.
 
-ghost use Rattle.std.specs.Prelude.{◌≡◌, true, false, ◌≤◌, ◌<◌, ◌+◌, ◌^◌, ◌++◌, ◌∷◌, []};
-ghost use Rattle.std.specs.Prelude.{ℕ, List, map, length, Result, Ok, Option, Some, option_map};
-ghost use Rattle.std.specs.Prelude.{IfOk, IfErr, OnOk, OnErr, String, slice_get, string_bytes};
+ghost use Rattle.std.specs.Prelude.{◌≡◌, true, false, ◌≤◌, ◌<◌, ◌+◌, ◌^◌, ◌++◌, ◌∷◌, [], ℕ, List};
+ghost use Rattle.std.specs.Prelude.{map, length, Result, Ok, Option, Some, option_map, IfOk, IfErr};
+ghost use Rattle.std.specs.Prelude.{OnOk, OnErr, String, slice_get, string_bytes};
 ghost use Rattle.std.specs.Borrow.{Bor};
 ghost use Rattle.std.specs.Global.{Global};
 ghost use Rattle.std.specs.List.Sorted.{IsStrictlyIncreasing};
 ghost use Rattle.protobuf_parse_base.specs.declared.proto_path.path.ProtoPathBuf.{ProtoPathBuf};
 ghost use Rattle.protobuf_parse_base.specs.PathViews.{path_buf_text};
 ghost use Rattle.protobuf_parse_syntax.specs.Counts.{statements_in};
-ghost use Rattle.protobuf_parse_syntax.specs.Trees.{file_syntax};
-ghost use Rattle.protobuf_parse_syntax.specs.Trees.{FileSyntax};
+ghost use Rattle.protobuf_parse_syntax.specs.Trees.{file_syntax, FileSyntax};
 ghost use Rattle.protobuf_parse_model.specs.Descriptors.{file_view};
 ghost use Rattle.protobuf_parse_model.specs.Faults.{fault_view};
 ghost use Rattle.protobuf_parse_model.specs.Tables.{TableTells};
@@ -23,15 +22,14 @@ ghost use Rattle.protobuf_parse_run.specs.Run.{input_view, origin_given, rows, t
 ghost use Rattle.protobuf_parse_run.specs.Loading.{ElaboratesTo, Grows, IndexBegins, IsDecided};
 ghost use Rattle.protobuf_parse_run.specs.Loading.{IsElabFault, IsPlaced, IsReaders, IsShadowed};
 ghost use Rattle.protobuf_parse_run.specs.Loading.{ReadsTree, ElaboratesOver, asked_by};
-ghost use Rattle.protobuf_parse_run.specs.Loading.{chain_texts};
-ghost use Rattle.protobuf_parse_run.specs.Loading.{ending_over, legal_by, named_trees};
+ghost use Rattle.protobuf_parse_run.specs.Loading.{chain_texts, ending_over, legal_by, named_trees};
 ghost use Rattle.protobuf_parse_run.specs.Loading.{descriptors_over, descriptors_with, trees_of};
 ghost use Rattle.protobuf_parse_run.specs.Frames.{Joined, is_public_at, number_if};
-ghost use Rattle.protobuf_parse_run.specs.Calls.{CanMeet, ClosesFrame, CountsThrough, GoesThrough};
-ghost use Rattle.protobuf_parse_run.specs.Calls.{GoesTo, HasIndex, KnowsFiles, Loads, MeetsFile};
-ghost use Rattle.protobuf_parse_run.specs.Calls.{StaysDecided, with_file};
+ghost use Rattle.protobuf_parse_run.specs.Calls.{CanMeet, CountsThrough, ElaboratesFrame};
+ghost use Rattle.protobuf_parse_run.specs.Calls.{GoesThrough, GoesTo, HasIndex, KnowsFiles, Loads};
+ghost use Rattle.protobuf_parse_run.specs.Calls.{MeetsFile, StaysDecided, with_file};
 
-use crate::asking::{answer, content, opened, origin, unreadable};
+use crate::asking::{answer, tree_given, unreadable};
 use crate::elaborated::{ElaboratedFile, checked, elaborated};
 use crate::fault::RunFault;
 use crate::frame::LoadFrame;
@@ -261,7 +259,7 @@ fn content_of<'a>(
         ≡ text_given (rows bundled.now) (path_buf_text e.path) (Some e.outcome) }
 {
     match reads.get(read) {
-        Some(entry) => content(entry, bundled),
+        Some(entry) => entry.content(bundled),
         None => None,
     }
 }
@@ -353,7 +351,7 @@ fn load_file<R: ProtoPathResolver, I: InputReader>(
     let mut stack: Vec<LoadFrame> = Vec::new(alloc);
     'files: loop {
         let Some(statement) = top.tree.statements.get(top.next) else {
-            let placed = close(alloc, loader, sources.gathers, top)?;
+            let placed = elaborate_last(alloc, loader, sources.gathers, top)?;
             let Some(parent) = stack.pop() else {
                 return Ok(());
             };
@@ -456,7 +454,7 @@ fn push_if(numbers: &mut Vec<u32>, public: bool, number: u32) -> Result<(), Allo
 }
 
 /// Elaborates the last file of the chain, whose imports are loaded, and adds it to the loaded ones.
-fn close(
+fn elaborate_last(
     alloc: Global,
     loader: &mut Loader,
     gathers: bool,
@@ -465,7 +463,7 @@ fn close(
     requires low { frame.height < MAX_CHAIN }
     requires few { statements_in (file_syntax frame.tree) ≤ 2147483647 }
     requires begins { HasIndex loader.old }
-    ensures { ClosesFrame gathers frame loader.old loader.new result }
+    ensures { ElaboratesFrame gathers frame loader.old loader.new result }
 {
     let LoadFrame {
         path,
@@ -563,7 +561,7 @@ fn read_tree<R: ProtoPathResolver, I: InputReader>(
         (path_buf_text path.now) loader.old.reads.items loader.new.reads.items result }
 {
     let outcome = answer(alloc, sources, path, fs_path)?;
-    let tree = opened(alloc, sources, path.as_path().to_str(), fs_path, &outcome);
+    let tree = tree_given(alloc, sources, path.as_path().to_str(), fs_path, &outcome);
     if ran_out(&tree) {
         return tree;
     }
@@ -756,7 +754,7 @@ fn refused(
         (IsElabFault (origin_given path.now (Some e.outcome)) (fault_view error) result) }
 {
     let file = match reads.get(read) {
-        Some(entry) => origin(entry),
+        Some(entry) => entry.origin(),
         None => path,
     };
     match String::from_str(alloc, file) {

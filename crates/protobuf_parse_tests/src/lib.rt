@@ -23,6 +23,8 @@ mod listed;
 #[cfg(test)]
 mod names;
 #[cfg(test)]
+mod one_read;
+#[cfg(test)]
 mod outcome;
 #[cfg(test)]
 mod program;

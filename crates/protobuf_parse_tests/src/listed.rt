@@ -166,7 +166,7 @@ const EXTENSIONS: ExtensionRange = ExtensionRange {
     end: 536870912,
 };
 
-// A message is handed on from step to step, so that none holds one over several calls that may fail.
+// A message is handed on from step to step, so that none is held over several calls that may fail.
 
 fn with_fields(alloc: Global, mut message: DescriptorProto) -> Result<DescriptorProto, AllocError> {
     message.field = full_fields(alloc)?;

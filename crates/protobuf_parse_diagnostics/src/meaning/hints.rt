@@ -58,8 +58,8 @@ fn copied(alloc: Global, text: &Option<String>) -> Result<Option<String>, AllocE
     }
 }
 
-/// Which file declares a type, or for E14 an extension, whose full name is that of the fault or ends
-/// in it after a dot, and whether it is imported. One of a file that is not seen comes first.
+/// Which file declares a type, or for E14 an extension, whose full name is that of the fault or
+/// ends in it after a dot, and whether it is imported. One of a file that is not seen comes first.
 fn where_declared(
     alloc: Global,
     sight: &Sight<'_, '_, '_, '_>,

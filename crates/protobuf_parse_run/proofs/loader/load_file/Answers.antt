@@ -488,7 +488,7 @@ returns-in_err-placed g c = record {
   goes = λ files kept go good.
       let le : length c.files.top.tree.statements.items
       ≤ c.files.top.next = (rw c.deref.ensures.value at c.in_default.ensures.lookup.3) in
-      let reads = ap (λ (w : Vec ReadEntry). w.items) c.close.ensures.reads in
+      let reads = ap (λ (w : Vec ReadEntry). w.items) c.elaborate_last.ensures.reads in
       let legal = legal_by g.R.ProtoPathResolver.may_answer g.I.InputReader.may_read
       c.args.sources.now in
       let none = c.files.invariant.unloaded (frame_path c.files.top)
@@ -497,7 +497,7 @@ returns-in_err-placed g c = record {
       let r = c.files.invariant.inside files kept back good in
       let k = running-closes c.args.sources.now.gathers legal files kept _
       (path_buf_text c.args.input.now) c.args.loader.now.meets c.files.stack.items c.files.top _ _
-      c.close.new.loader.loaded.entries _ c.close.new.loader.tables _
+      c.elaborate_last.new.loader.loaded.entries _ c.elaborate_last.new.loader.tables _
       (Err c.in_err-placed.field-0.0) r _ _ go c.files.invariant.known c.files.invariant.taken
       none c.files.invariant.off le (omega (arith, c.files.invariant.low))
       (c.in_err-placed.ensures.elaborates c.files.invariant.known.tells) in
@@ -508,19 +508,19 @@ returns-in_err-placed g c = record {
       (path_buf_text c.args.input.now) c.args.loader.now.meets c.files.stack.items c.files.top _ _
       _ c.in_err-placed.field-0.0 r le k);
   count = λ files kept go good.
-      let reads = ap (λ (w : Vec ReadEntry). w.items) c.close.ensures.reads in
+      let reads = ap (λ (w : Vec ReadEntry). w.items) c.elaborate_last.ensures.reads in
       let legal = legal_by g.R.ProtoPathResolver.may_answer g.I.InputReader.may_read
       c.args.sources.now in
       let back = goes-same files _ _ _ reads go in
       let r = c.files.invariant.inside files kept back good in
       let p = err_from_is_err_and c.from_residual-in_err-placed.result
       c.from_residual-in_err-placed.ensures.1 in
-      rw (p.1, c.close.ensures.meets)
+      rw (p.1, c.elaborate_last.ensures.meets)
       (counted-now c.args.sources.now.gathers legal files kept _
       (path_buf_text c.args.input.now) c.args.loader.now.meets c.files.stack.items c.files.top _ _
       _ r);
   decided = λ d.
-      let reads = ap (λ (w : Vec ReadEntry). w.items) c.close.ensures.reads in
+      let reads = ap (λ (w : Vec ReadEntry). w.items) c.elaborate_last.ensures.reads in
       decided-same (rows c.args.sources.now.bundled.now) _ _ reads (c.files.invariant.decided d);
   known = search rules;
 }
@@ -533,13 +533,13 @@ returns-in_default-pop g c = record {
       ≡ 0 = omega (arith, c.in_default-pop.ensures.cases.0, c.files.stack.ok.0) in
       let empty : c.files.stack.items ≡ [] = none_of c.files.stack.items zero_left in
       none-texts _
-      (c.close.ensures.chain [] (c.files.invariant.chain
+      (c.elaborate_last.ensures.chain [] (c.files.invariant.chain
       ∙ ap (λ z. chain_of [] z ++ frame_path c.files.top ∷ []) empty));
   bound = search rules;
   goes = λ files kept go good.
       let le : length c.files.top.tree.statements.items
       ≤ c.files.top.next = (rw c.deref.ensures.value at c.in_default.ensures.lookup.3) in
-      let reads = ap (λ (w : Vec ReadEntry). w.items) c.close.ensures.reads in
+      let reads = ap (λ (w : Vec ReadEntry). w.items) c.elaborate_last.ensures.reads in
       let zero_left : length c.files.stack.items
       ≡ 0 = omega (arith, c.in_default-pop.ensures.cases.0, c.files.stack.ok.0) in
       let empty : c.files.stack.items ≡ [] = none_of c.files.stack.items zero_left in
@@ -551,7 +551,7 @@ returns-in_default-pop g c = record {
       let r = c.files.invariant.inside files kept back good in
       let k = running-closes c.args.sources.now.gathers legal files kept _
       (path_buf_text c.args.input.now) c.args.loader.now.meets c.files.stack.items c.files.top _ _
-      c.close.new.loader.loaded.entries _ c.close.new.loader.tables _
+      c.elaborate_last.new.loader.loaded.entries _ c.elaborate_last.new.loader.tables _
       (Ok c.in_ok-placed.placed) r _ _ go c.files.invariant.known c.files.invariant.taken none
       c.files.invariant.off le (omega (arith, c.files.invariant.low))
       (c.in_ok-placed.ensures.elaborates c.files.invariant.known.tells) in
@@ -562,7 +562,7 @@ returns-in_default-pop g c = record {
   count = λ files kept go good.
       let le : length c.files.top.tree.statements.items
       ≤ c.files.top.next = (rw c.deref.ensures.value at c.in_default.ensures.lookup.3) in
-      let reads = ap (λ (w : Vec ReadEntry). w.items) c.close.ensures.reads in
+      let reads = ap (λ (w : Vec ReadEntry). w.items) c.elaborate_last.ensures.reads in
       let zero_left : length c.files.stack.items
       ≡ 0 = omega (arith, c.in_default-pop.ensures.cases.0, c.files.stack.ok.0) in
       let empty : c.files.stack.items ≡ [] = none_of c.files.stack.items zero_left in
@@ -570,16 +570,16 @@ returns-in_default-pop g c = record {
       c.args.sources.now in
       let back = goes-same files _ _ _ reads go in
       let r = (rw empty at (c.files.invariant.inside files kept back good)) in
-      rw c.close.ensures.meets
+      rw c.elaborate_last.ensures.meets
       (counted-end c.args.sources.now.gathers legal files kept _
       (path_buf_text c.args.input.now) c.args.loader.now.meets c.files.top _ _ _ r le);
   decided = λ d.
-      let reads = ap (λ (w : Vec ReadEntry). w.items) c.close.ensures.reads in
+      let reads = ap (λ (w : Vec ReadEntry). w.items) c.elaborate_last.ensures.reads in
       decided-same (rows c.args.sources.now.bundled.now) _ _ reads (c.files.invariant.decided d);
   known =
       let le : length c.files.top.tree.statements.items
       ≤ c.files.top.next = (rw c.deref.ensures.value at c.in_default.ensures.lookup.3) in
-      let reads = ap (λ (w : Vec ReadEntry). w.items) c.close.ensures.reads in
+      let reads = ap (λ (w : Vec ReadEntry). w.items) c.elaborate_last.ensures.reads in
       let cl = closed-is c.args.sources.now.gathers c.files.top _ _ _ _ _
       (chain_of [] c.files.stack.items) c.in_ok-placed.placed c.files.invariant.known
       c.files.invariant.taken c.files.invariant.unloaded c.files.invariant.off le
@@ -613,7 +613,7 @@ pub files-preserved-in_default : goal.files-preserved-in_default
 files-preserved-in_default g c =
     let le : length c.files.top.tree.statements.items
     ≤ c.files.top.next = (rw c.deref.ensures.value at c.in_default.ensures.lookup.3) in
-    let reads = ap (λ (w : Vec ReadEntry). w.items) c.close.ensures.reads in
+    let reads = ap (λ (w : Vec ReadEntry). w.items) c.elaborate_last.ensures.reads in
     let cl = closed-is c.args.sources.now.gathers c.files.top _ _ _ _ _
     (chain_of [] c.files.stack.items) c.in_ok-placed.placed c.files.invariant.known
     c.files.invariant.taken c.files.invariant.unloaded c.files.invariant.off le
@@ -635,10 +635,10 @@ files-preserved-in_default g c =
     let x = ap length (none-left c.files.top le) in
     let y = ap length (left-joined c.in-Some-pop.parent c.join.new.frame c.in_ok-placed.placed j) in
     let z = ap to_meet s ∙ to_meet-push c.pop.new.self.items c.in-Some-pop.parent in
-    let q = ap (λ (w : Vec ReadEntry). length w.items) c.close.ensures.reads in
+    let q = ap (λ (w : Vec ReadEntry). length w.items) c.elaborate_last.ensures.reads in
     record {
       chain = rw j.path_is
-          (c.close.ensures.chain (chain_of [] c.files.stack.items) c.files.invariant.chain
+          (c.elaborate_last.ensures.chain (chain_of [] c.files.stack.items) c.files.invariant.chain
           ∙ (ap (chain_of []) s ∙ chain_of-push [] c.pop.new.self.items c.in-Some-pop.parent));
       grows = rw reads c.files.invariant.grows;
       decided = λ d. decided-same (rows c.args.sources.now.bundled.now) _ _ reads
@@ -668,7 +668,7 @@ files-preserved-in_default g c =
           rw j.path_is
           (sym (first_path-push c.pop.new.self.items c.in-Some-pop.parent (frame_path c.files.top))
           ∙ (rw s at c.files.invariant.lowest));
-      bound = omega (arith, x, y, z, q, c.close.ensures.meets, c.files.invariant.bound);
+      bound = omega (arith, x, y, z, q, c.elaborate_last.ensures.meets, c.files.invariant.bound);
       inside = λ files kept go good.
           let legal = legal_by g.R.ProtoPathResolver.may_answer g.I.InputReader.may_read
           c.args.sources.now in
@@ -678,11 +678,12 @@ files-preserved-in_default g c =
           let r = c.files.invariant.inside files kept back good in
           let k = running-closes c.args.sources.now.gathers legal files kept _
           (path_buf_text c.args.input.now) c.args.loader.now.meets c.files.stack.items
-          c.files.top _ _ c.close.new.loader.loaded.entries _ c.close.new.loader.tables _
+          c.files.top _ _ c.elaborate_last.new.loader.loaded.entries _
+          c.elaborate_last.new.loader.tables _
           (Ok c.in_ok-placed.placed) r _ _ go c.files.invariant.known c.files.invariant.taken
           none c.files.invariant.off le (omega (arith, c.files.invariant.low))
           (c.in_ok-placed.ensures.elaborates c.files.invariant.known.tells) in
-          rw (reads, c.close.ensures.meets)
+          rw (reads, c.elaborate_last.ensures.meets)
           (running-close c.args.sources.now.gathers legal files kept _
           (path_buf_text c.args.input.now) c.args.loader.now.meets c.pop.new.self.items
           c.files.stack.items c.files.top c.in-Some-pop.parent c.join.new.frame
@@ -697,7 +698,7 @@ returns-in_err-join g c = record {
   goes = λ files kept go good.
       let le : length c.files.top.tree.statements.items
       ≤ c.files.top.next = (rw c.deref.ensures.value at c.in_default.ensures.lookup.3) in
-      let reads = ap (λ (w : Vec ReadEntry). w.items) c.close.ensures.reads in
+      let reads = ap (λ (w : Vec ReadEntry). w.items) c.elaborate_last.ensures.reads in
       let legal = legal_by g.R.ProtoPathResolver.may_answer g.I.InputReader.may_read
       c.args.sources.now in
       let none = c.files.invariant.unloaded (frame_path c.files.top)
@@ -706,7 +707,7 @@ returns-in_err-join g c = record {
       let r = c.files.invariant.inside files kept back good in
       let k = running-closes c.args.sources.now.gathers legal files kept _
       (path_buf_text c.args.input.now) c.args.loader.now.meets c.files.stack.items c.files.top _ _
-      c.close.new.loader.loaded.entries _ c.close.new.loader.tables _
+      c.elaborate_last.new.loader.loaded.entries _ c.elaborate_last.new.loader.tables _
       (Ok c.in_ok-placed.placed) r _ _ go c.files.invariant.known c.files.invariant.taken none
       c.files.invariant.off le (omega (arith, c.files.invariant.low))
       (c.in_ok-placed.ensures.elaborates c.files.invariant.known.tells) in
@@ -717,19 +718,19 @@ returns-in_err-join g c = record {
       (path_buf_text c.args.input.now) c.args.loader.now.meets c.files.stack.items c.files.top
       c.in_ok-placed.placed _ _ _ _ p.0 r le k p.2);
   count = λ files kept go good.
-      let reads = ap (λ (w : Vec ReadEntry). w.items) c.close.ensures.reads in
+      let reads = ap (λ (w : Vec ReadEntry). w.items) c.elaborate_last.ensures.reads in
       let legal = legal_by g.R.ProtoPathResolver.may_answer g.I.InputReader.may_read
       c.args.sources.now in
       let back = goes-same files _ _ _ reads go in
       let r = c.files.invariant.inside files kept back good in
       let p = err_from_is_err_and c.from_residual-in_err-join.result
       c.from_residual-in_err-join.ensures.1 in
-      rw (p.1, c.close.ensures.meets)
+      rw (p.1, c.elaborate_last.ensures.meets)
       (counted-now c.args.sources.now.gathers legal files kept _
       (path_buf_text c.args.input.now) c.args.loader.now.meets c.files.stack.items c.files.top _ _
       _ r);
   decided = λ d.
-      let reads = ap (λ (w : Vec ReadEntry). w.items) c.close.ensures.reads in
+      let reads = ap (λ (w : Vec ReadEntry). w.items) c.elaborate_last.ensures.reads in
       decided-same (rows c.args.sources.now.bundled.now) _ _ reads (c.files.invariant.decided d);
   known = search rules;
 }

@@ -31,7 +31,8 @@ invariant-files g l =
           ≤ l.fn.loader.meets + 1 + length l.loader.reads.items * 2 ^ 64;
       inside : (files : Files) (kept : List Event)
           → GoesOn files (rows l.sources.bundled.now) l.loader.reads.items
-          → Good l.sources.gathers legal files kept l.fn.loader.loaded.entries l.fn.loader.reads.items []
+          → Good l.sources.gathers legal files kept l.fn.loader.loaded.entries
+          l.fn.loader.reads.items []
           → IsRunning l.sources.gathers legal files kept
           (keep kept
           (walk files.trees (path_buf_text l.input) (asked_by l.fs_path) 100 []

@@ -35,7 +35,7 @@ pub returns-clause-read : goal.returns-clause-read
 returns-clause-read g c =
     let legal = legal_by g.R.ProtoPathResolver.may_answer g.I.InputReader.may_read
     c.args.sources.now in
-    read_ends legal _ (asked_by c.args.fs_path) _ _ _ _ _ c.opened-tree.result
+    read_ends legal _ (asked_by c.args.fs_path) _ _ _ _ _ c.tree_given-tree.result
     (c.to_str.ensures.text ∙ c.as_path.ensures) c.in_ok-note.ensures.ok c.in_ok-outcome.ensures
-    (c.ran_out.ensures.other c.if-ran_out.false) c.opened-tree.ensures.tree
-    c.opened-tree.ensures.treeless c.opened-tree.ensures.stands
+    (c.ran_out.ensures.other c.if-ran_out.false) c.tree_given-tree.ensures.tree
+    c.tree_given-tree.ensures.treeless c.tree_given-tree.ensures.stands

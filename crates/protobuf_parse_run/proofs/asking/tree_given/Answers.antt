@@ -1,7 +1,7 @@
 use Rattle.std.proofs.Common.{◌≡◌, Some, rules}
 use Rattle.protobuf_parse_run.specs.Run.{rows, text_given, origin_given}
 use Rattle.protobuf_parse_run.proofs.Opening.{contents_stand, lacks_tree}
-use Rattle.protobuf_parse_run.proofs.asking.opened.Goals as goal
+use Rattle.protobuf_parse_run.proofs.asking.tree_given.Goals as goal
 
 pub returns-in-Content-clause-treeless : goal.returns-in-Content-clause-treeless
 returns-in-Content-clause-treeless g c =
