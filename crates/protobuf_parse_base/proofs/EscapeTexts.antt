@@ -19,7 +19,8 @@ pub record IsUnescaped (b : ℕ) : Type 0 where
 pub escaped_byte-cases : (P : ℕ → List ℕ → Type 0)
     → P 10 (short_escape 110) → P 13 (short_escape 114) → P 9 (short_escape 116)
     → P 34 (short_escape 34) → P 39 (short_escape 39) → P 92 (short_escape 92)
-    → ((b : ℕ) → IsUnescaped b → P b (b ∷ [])) → ((b : ℕ) → b < 256 → P b (octal_escape b)) → (b : ℕ)
+    → ((b : ℕ) → IsUnescaped b → P b (b ∷ [])) → ((b : ℕ) → b < 256 → P b (octal_escape b))
+    → (b : ℕ)
     → b < 256 → P b (escaped_byte b)
 escaped_byte-cases P line_feed return tab quote apostrophe backslash plain octal b small =
     elim (cases_Bool (b == 10)) [

@@ -1,4 +1,4 @@
--- What a name is: its bytes, whether they lie in the value itself or in a place of their own.
+-- What a name is: its bytes, whether they lie in the value itself or in memory of their own.
 use Rattle.std.specs.Prelude.{List, ℕ}
 use Rattle.std.specs.String.{string_bytes}
 use Rattle.protobuf_parse_base.specs.declared.name.Name.{Name}

@@ -21,7 +21,7 @@ pub struct Name {
     text: Text,
 }
 
-/// A text, in the value itself or in a place of its own.
+/// A text, in the value itself or in memory of its own.
 #[derive(Drop)]
 enum Text {
     Short(ArrayString<IN_PLACE>),
@@ -38,7 +38,6 @@ impl Drop for Name {
 
 impl Name {
     /// The name with this text. The one error is that memory is short.
-    #[inline]
     pub fn new(alloc: Global, text: &str) -> Result<Name, AllocError>
         ensures { IfOk result (λ n. name_bytes n ≡ text.now) }
     {
@@ -50,7 +49,6 @@ impl Name {
     }
 
     /// Its text.
-    #[inline]
     pub fn as_str(&self) -> &str
         ensures { result.now ≡ name_bytes self.now }
     {
@@ -61,14 +59,13 @@ impl Name {
     }
 
     /// A copy of its text. The one error is that memory is short.
-    #[inline]
     pub fn text(&self, alloc: Global) -> Result<String, AllocError>
         ensures { IfOk result (λ s. string_bytes s ≡ name_bytes self.now) }
     {
         String::from_str(alloc, self.as_str())
     }
 
-    /// Its text. One that has a place of its own is handed out without a copy, and takes no memory.
+    /// Its text. One that has memory of its own is handed out without a copy, and takes no memory.
     /// The one error is that memory is short.
     pub fn into_string(self, alloc: Global) -> Result<String, AllocError>
         ensures { IfOk result (λ s. string_bytes s ≡ name_bytes self) }
@@ -96,7 +93,6 @@ impl From<String> for Name {
 impl DerefStr for Name {
     ghost deref_gives = { λ n bytes. bytes ≡ name_bytes n };
 
-    #[inline]
     fn deref(&self) -> &str {
         self.as_str()
     }
@@ -106,7 +102,6 @@ impl DerefStr for Name {
 impl AsStr for Name {
     ghost text = { name_bytes };
 
-    #[inline]
     fn as_str(&self) -> &str {
         self.as_str()
     }
@@ -116,7 +111,6 @@ impl AsStr for Name {
 impl Clone for Name {
     ghost is_clone = { λ n copy. name_bytes copy ≡ name_bytes n };
 
-    #[inline]
     fn clone(&self) -> Result<Name, AllocError> {
         let text = match &self.text {
             Text::Short(short) => Text::Short(*short),

@@ -58,7 +58,6 @@ pub fn json_name(alloc: Global, name: &str) -> Result<Name, AllocError>
 }
 
 /// The same of the bytes of a name, in their place. The first `front` bytes stay where they are.
-#[inline]
 fn json_name_in_place(alloc: Global, bytes: &mut [u8], front: usize) -> Result<Name, AllocError>
     requires text { IsUtf8 bytes.old }
     requires within { front ≤ length bytes.old }
@@ -95,7 +94,6 @@ fn join_bytes(alloc: Global, name: &[u8], raise: bool, room: usize) -> Result<Ve
 
 /// Moves what the bytes of a name become to their front, and gives its length. The first `front`
 /// bytes stay where they are.
-#[inline]
 fn join_in_place(bytes: &mut [u8], front: usize, raise: bool) -> usize
     requires within { front ≤ length bytes.old }
     requires kept { take front bytes.old ++ joined_words raise (drop front bytes.old)
@@ -123,7 +121,6 @@ fn join_in_place(bytes: &mut [u8], front: usize, raise: bool) -> usize
 
 /// How many bytes stand before the first underscore: all of them, if there is none. None of those
 /// changes, where the first is not raised.
-#[inline]
 fn before_underscore(bytes: &[u8]) -> usize
     ensures within { result ≤ length bytes.now }
     ensures none { has_underscore (take result bytes.now) ≡ false }

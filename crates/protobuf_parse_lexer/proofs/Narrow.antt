@@ -55,7 +55,8 @@ pub run_place : (p now : Place) (z : Bytes) (i n : ℕ) → now ≡ after p (tak
     → ◌≡◌ {A = Place} (record { line = now.line; col = now.col + (n - i) }) (after p (take n z))
 run_place p now z i n is from within narrow =
     let e : i + (n - i) ≡ n = omega arith in
-    let run = after_run p z i (n - i) (omega arith) (subst (AllPass is_narrow z i) (sym e) narrow) in
+    let run = after_run p z i (n - i) (omega arith)
+    (subst (AllPass is_narrow z i) (sym e) narrow) in
     ap (λ (q : Place). record { line = q.line; col = q.col + (n - i) }) is ∙ sym run
     ∙ ap (λ k. after p (take k z)) e
 

@@ -1,9 +1,7 @@
 -- What the short ways past blanks and tokens find at the front of a text.
 use Rattle.std.proofs.Common.{◌≡◌, ◌≢◌, ℕ, zero, suc, ◌+◌, ◌-◌, ◌*◌, ◌<◌, ◌≤◌, ◌^◌, true, false, []}
-use Rattle.std.proofs.Common.{◌∷◌}
-use Rattle.std.proofs.Common.{length, take, drop, slice_index, refl, sym, ap, ◌∙◌, subst, arith}
-use Rattle.std.proofs.Common.{eqb, nat_le, nat_lt, ◌||◌}
-use Rattle.std.proofs.Common.{inl, inr, ◌⊎◌, IsUtf8}
+use Rattle.std.proofs.Common.{◌∷◌, length, take, drop, slice_index, refl, sym, ap, ◌∙◌, subst}
+use Rattle.std.proofs.Common.{arith, eqb, nat_le, nat_lt, ◌||◌, inl, inr, ◌⊎◌, IsUtf8}
 use Rattle.std.specs.Char as char
 use Rattle.std.specs.Prelude.{slice_range}
 use Rattle.std.specs.Str.{IsCharBoundary}
@@ -18,8 +16,8 @@ use Rattle.protobuf_parse_lexer.specs.Place.{after, step}
 use Rattle.protobuf_parse_lexer.specs.Scan.{BeginsNumber, IsPlaceBefore, Stands}
 use Rattle.protobuf_parse_lexer.specs.Scan.{begins_line_comment}
 use Rattle.protobuf_parse_lexer.specs.Text.{Bytes, is_in, AllIn, RunStopsAt, IsBlank, IsDecimal}
-use Rattle.protobuf_parse_lexer.specs.Text.{IsFloat, IsLetterE, IsLongest, IsNumberText}
-use Rattle.protobuf_parse_lexer.specs.Text.{IsToken, IsQuote, is_symbol}
+use Rattle.protobuf_parse_lexer.specs.Text.{IsFloat, IsLetterE, IsLongest, IsNumberText, IsToken}
+use Rattle.protobuf_parse_lexer.specs.Text.{IsQuote, is_symbol}
 use Rattle.protobuf_parse_lexer.specs.Total.{total, true_or_false}
 use Rattle.protobuf_parse_lexer.specs.declared.lexer.bytes.ByteClass.TheVariants as class
 use Rattle.protobuf_parse_lexer.specs.declared.lexer.front.Piece.{Piece}
@@ -91,7 +89,8 @@ same_step p b other =
     ]
 
 -- no line feed in these bytes
-pub same_line : (p : Place) (z : Bytes) → AllIn class.Line z 0 (length z) → (after p z).line ≡ p.line
+pub same_line : (p : Place) (z : Bytes) → AllIn class.Line z 0 (length z) → (after p z).line
+    ≡ p.line
 same_line p [] each = refl
 same_line p (b ∷ z) each =
     let other : eqb b 10 ≡ false = line_byte b (each 0 (omega arith) (omega arith)) in

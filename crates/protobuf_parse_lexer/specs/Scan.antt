@@ -1,8 +1,8 @@
 -- No public clause rests on this file.
 -- What the scanners of the front of a text answer.
 use Rattle.std.specs.Prelude.{◌≡◌, ◌≤◌, ◌<◌, ◌⊎◌, ℕ, ◌+◌, Bool, true, false, not, nat_le, nat_lt}
-use Rattle.std.specs.Prelude.{◌&&◌, ◌||◌, if◌then◌else◌, ◌==◌, List, [], ◌∷◌, length, slice_index, Option}
-use Rattle.std.specs.Prelude.{Some, None}
+use Rattle.std.specs.Prelude.{◌&&◌, ◌||◌, if◌then◌else◌, ◌==◌, List, [], ◌∷◌, length, slice_index}
+use Rattle.std.specs.Prelude.{Option, Some, None}
 use Rattle.std.specs.Int.{w64, trailing_zeros}
 use Rattle.protobuf_parse_base.specs.Characters as char
 use Rattle.protobuf_parse_lexer.specs.Text.{Bytes, is_in, AllIn, RunStopsAt, IsBlank, IsToken}
@@ -14,8 +14,8 @@ use Rattle.protobuf_parse_lexer.specs.declared.lexer.token.TokenKind.TheVariants
 use Rattle.protobuf_parse_lexer.specs.declared.lexer.front.Piece.{Piece}
 use Rattle.protobuf_parse_lexer.specs.declared.lexer.front.Piece.TheVariants as piece
 
--- The place after the closing quote, for a text that begins at `at`. The test is whether a
--- backslash takes the first byte.
+-- The index behind the closing quote, for a text that begins at the index `at`. The test is whether
+-- a backslash takes the first byte.
 abbrev pub closing : ℕ → Bool → ℕ → List ℕ → Option ℕ
 closing quote is_escaped at [] = None
 closing quote true at (b ∷ z) =
@@ -46,14 +46,15 @@ IsRunIn test z i n run =
     ((run ≤ n) × AllPass test z i (i + run))
     × (run < n → test (slice_index z (i + run)) ≡ false)
 
--- the place of the lowest bit that is set, or n
+-- the number of the lowest bit that is set, or n
 abbrev pub first_set : ℕ → ℕ → ℕ
 first_set mask n = if mask == 0 then n else trailing_zeros w64 mask
 
 -- a symbol whatever stands behind it: one with which no string, number or comment begins
 abbrev pub is_lone_symbol : ℕ → Bool
 is_lone_symbol b =
-    (nat_le char.colon b && nat_le b char.tilde) || (nat_le char.open_paren b && nat_le b char.minus)
+    (nat_le char.colon b && nat_le b char.tilde) ||
+    (nat_le char.open_paren b && nat_le b char.minus)
 
 -- a point that begins no number
 abbrev pub is_lone_point : Bytes → Bool

@@ -3,7 +3,7 @@
 ghost use Rattle.std.specs.Prelude.{◌≡◌, ◌≢◌, ℕ, ◌<◌, ◌≤◌, length, slice_index, true, false};
 ghost use Rattle.protobuf_parse_lexer.specs.Text as text;
 
-// Each byte of an identifier stands at its own place, and a comma at every other place.
+// Each byte of an identifier stands at its own index, and a comma at every other.
 static IDENT_MAP: [u8; 256] = *b"\
     ,,,,,,,,,,,,,,,,,,,,,,,,,,,,,,,,\
     ,,,,,,,,,,,,,,,,0123456789,,,,,,\
@@ -26,7 +26,6 @@ pub enum ByteClass {
 }
 
 /// Whether the byte is a letter, a digit or an underscore.
-#[inline]
 fn is_ident(byte: u8) -> bool
     ensures { result ≡ text.is_in ByteClass.Ident byte }
 {
@@ -34,7 +33,6 @@ fn is_ident(byte: u8) -> bool
 }
 
 /// Whether the byte is one of that class.
-#[inline]
 pub fn is_in(class: ByteClass, byte: u8) -> bool
     ensures { result ≡ text.is_in class byte }
 {
@@ -49,7 +47,6 @@ pub fn is_in(class: ByteClass, byte: u8) -> bool
 }
 
 /// The byte at `at`, or 0 past the end.
-#[inline]
 pub fn byte_at(bytes: &[u8], at: usize) -> u8
     ensures value { result ≡ slice_index bytes.now at }
     ensures within { result ≢ 0 → at < length bytes.now }
@@ -58,7 +55,6 @@ pub fn byte_at(bytes: &[u8], at: usize) -> u8
 }
 
 /// The end of the bytes of the class from `at` on.
-#[inline]
 pub fn run_end(class: ByteClass, bytes: &[u8], at: usize) -> usize
     requires { at ≤ length bytes.now }
     ensures after { at ≤ result }

@@ -71,7 +71,6 @@ fn string_end(text: &[u8]) -> Option<usize>
 }
 
 /// The end of the identifier at the front.
-#[inline(always)]
 pub fn ident_end(text: &[u8]) -> usize
     requires some { 0 < length text.now }
     requires ident { is_in ByteClass.Ident (slice_index text.now 0) ≡ true }
@@ -82,6 +81,7 @@ pub fn ident_end(text: &[u8]) -> usize
 }
 
 /// What stands at the front, where it is no blank and no comment.
+// Inlined: 3.8 % of the instructions for comments.
 #[inline(always)]
 fn token_piece(text: &[u8]) -> Piece
     requires some { 0 < length text.now }
@@ -112,6 +112,7 @@ fn token_piece(text: &[u8]) -> Piece
 }
 
 /// What stands at the front of a text.
+// Inlined: 3.4 % of the instructions for comments.
 #[inline(always)]
 pub fn front_piece(text: &[u8]) -> Piece
     ensures { Stands text.now result }
@@ -137,7 +138,6 @@ pub fn front_piece(text: &[u8]) -> Piece
 
 /// Whether the byte at the front is a symbol whatever stands behind it: it is no quote, no point,
 /// with which a number may begin, and no slash, with which a comment may.
-#[inline(always)]
 pub fn is_lone_symbol(first: u8) -> bool
     ensures { result ≡ scan.is_lone_symbol first }
 {
@@ -145,7 +145,6 @@ pub fn is_lone_symbol(first: u8) -> bool
 }
 
 /// Whether a point stands at the front that begins no number.
-#[inline(always)]
 pub fn is_lone_point(text: &[u8]) -> bool
     ensures { result ≡ scan.is_lone_point text.now }
 {

@@ -40,7 +40,6 @@ fn number_kind(text: &[u8]) -> TokenKind
 }
 
 /// The kind of a token with this text.
-#[inline(always)]
 #[tactic(auto, unfolding(crate::specs::TokenKinds::kind_of))]
 pub fn kind_of(text: &[u8]) -> TokenKind
     ensures { result ≡ kinds.kind_of text.now }

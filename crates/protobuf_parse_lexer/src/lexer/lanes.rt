@@ -11,8 +11,7 @@ use std::simd::prelude::*;
 /// How many bytes are looked at together.
 pub const LANES: usize = 16;
 
-/// The place of the lowest bit that is set, or the number of lanes.
-#[inline(always)]
+/// The number of the lowest bit that is set, or the number of lanes.
 fn first_set(mask: u64, lanes: usize) -> usize
     ensures { result ≡ scan.first_set mask lanes }
 {
@@ -24,7 +23,6 @@ fn first_set(mask: u64, lanes: usize) -> usize
 }
 
 /// How many of the next bytes, from the first, stand in identifiers.
-#[inline(always)]
 fn ident_run(bytes: &[u8], at: usize) -> usize
     requires { at + LANES ≤ length bytes.now }
     ensures { IsRunIn (text.is_in ByteClass.Ident) bytes.now at LANES result }
@@ -39,7 +37,6 @@ fn ident_run(bytes: &[u8], at: usize) -> usize
 
 /// The end of the identifier's bytes from `at` on. Most have less than sixteen, and are looked at
 /// before there is a loop.
-#[inline(always)]
 pub fn ident_run_end(bytes: &[u8], at: usize) -> usize
     requires { at ≤ length bytes.now }
     ensures after { at ≤ result }
@@ -66,7 +63,6 @@ pub fn ident_run_end(bytes: &[u8], at: usize) -> usize
 }
 
 /// How many of the next bytes, from the first, are no line feed.
-#[inline(always)]
 fn line_run(bytes: &[u8], at: usize) -> usize
     requires { at + LANES ≤ length bytes.now }
     ensures { IsRunIn (text.is_in ByteClass.Line) bytes.now at LANES result }
@@ -76,7 +72,6 @@ fn line_run(bytes: &[u8], at: usize) -> usize
 }
 
 /// The end of the line's bytes from `at` on.
-#[inline]
 pub fn line_run_end(bytes: &[u8], at: usize) -> usize
     requires { at ≤ length bytes.now }
     ensures after { at ≤ result }
@@ -96,7 +91,6 @@ pub fn line_run_end(bytes: &[u8], at: usize) -> usize
 }
 
 /// How many of the next bytes, from the first, are narrow.
-#[inline(always)]
 fn narrow_run(bytes: &[u8], at: usize) -> usize
     requires { at + LANES ≤ length bytes.now }
     ensures { IsRunIn is_narrow bytes.now at LANES result }
@@ -107,7 +101,6 @@ fn narrow_run(bytes: &[u8], at: usize) -> usize
 }
 
 /// The end of the narrow bytes from `at` on: no line feed, and no byte of a longer character.
-#[inline]
 pub fn narrow_run_end(bytes: &[u8], at: usize) -> usize
     requires { at ≤ length bytes.now }
     ensures after { at ≤ result }

@@ -106,7 +106,6 @@ fn decimal_end(text: &[u8], whole: usize) -> usize
 }
 
 /// What a digit counts, up to 15.
-#[inline]
 pub fn digit_value(digit: u8) -> u64
     requires { is_in ByteClass.Hex digit ≡ true }
     ensures { result ≡ char.digit_value digit }
@@ -173,7 +172,6 @@ fn float_piece(text: &[u8], end: usize) -> Piece
 }
 
 /// Whether a number before the byte goes on with it, or is refused for it.
-#[inline(always)]
 fn goes_on(byte: u8) -> bool
     ensures ident { result ≡ false → is_in ByteClass.Ident byte ≡ false }
     ensures point { result ≡ false → byte ≢ dot }
@@ -183,7 +181,6 @@ fn goes_on(byte: u8) -> bool
 
 /// How long the number at the front is, and what it spells, if it is a decimal integer of one or
 /// two digits, as the numbers of most fields are.
-#[inline(always)]
 pub fn short_number(text: &[u8]) -> Option<(usize, u64)>
     requires some { 0 < length text.now }
     requires digit { is_in ByteClass.Digit (slice_index text.now 0) ≡ true }
@@ -201,6 +198,7 @@ pub fn short_number(text: &[u8]) -> Option<(usize, u64)>
 }
 
 /// The number at the front.
+// Inlined: 0.5 % of the instructions for fields of all kinds.
 #[inline(always)]
 pub fn number_piece(text: &[u8]) -> Piece
     requires some { 0 < length text.now }

@@ -14,7 +14,6 @@ use crate::lexer::token::{Place, TokenKind};
 
 /// The place after one byte more. The bytes 128 to 191 go on with a character that begins before
 /// them.
-#[inline]
 pub fn step(place: Place, byte: u8) -> Place
     requires line { place.line + 1 < 2 ^ 32 }
     requires col { place.col + 1 < 2 ^ 32 }
@@ -38,7 +37,6 @@ pub fn step(place: Place, byte: u8) -> Place
 }
 
 /// The place after these bytes, which begin at `place` and are taken one by one.
-#[inline]
 #[tactic(auto, using(crate::proofs::Narrow::after_next))]
 fn place_after_each(place: Place, bytes: &[u8]) -> Place
     requires line { place.line + length bytes.now < 2 ^ 32 }
@@ -77,7 +75,6 @@ fn place_after_runs(place: Place, bytes: &[u8]) -> Place
 }
 
 /// The place after these bytes, which begin at `place`.
-#[inline(always)]
 pub fn place_after(place: Place, bytes: &[u8]) -> Place
     requires line { place.line + length bytes.now < 2 ^ 32 }
     requires col { place.col + length bytes.now < 2 ^ 32 }
@@ -99,6 +96,7 @@ pub fn place_after(place: Place, bytes: &[u8]) -> Place
 }
 
 /// The end of the spaces from `at` on.
+// Inlined: 2.1 % of the instructions for scalars.
 #[inline(always)]
 fn spaces_end(bytes: &[u8], at: usize) -> usize
     requires { at ≤ length bytes.now }
@@ -115,7 +113,6 @@ fn spaces_end(bytes: &[u8], at: usize) -> usize
 
 /// How many blanks stand at the front of these bytes, which begin at `place`; and the place behind
 /// them.
-#[inline(always)]
 pub fn blanks(place: Place, bytes: &[u8]) -> (usize, Place)
     requires line { place.line + length bytes.now < 2 ^ 32 }
     requires col { place.col + length bytes.now < 2 ^ 32 }
@@ -140,10 +137,9 @@ pub fn blanks(place: Place, bytes: &[u8]) -> (usize, Place)
     }
 }
 
-/// The place behind blanks or a comment, which begin at `place`. Where a comment ends at a line feed
-/// its characters aren't counted, since no column goes on behind it: that spares 3 % of the
+/// The place behind blanks or a comment, which begin at `place`. Where a comment ends at a line
+/// feed its characters aren't counted, since no column goes on behind it: that spares 3 % of the
 /// instructions of files with as many comments as most have.
-#[inline(always)]
 pub fn place_behind(place: Place, blank: &[u8], rest: &[u8]) -> Place
     requires line { place.line + length blank.now < 2 ^ 32 }
     requires col { place.col + length blank.now < 2 ^ 32 }
@@ -160,7 +156,6 @@ pub fn place_behind(place: Place, blank: &[u8], rest: &[u8]) -> Place
 }
 
 /// Whether a comment up to the end of its line begins there.
-#[inline(always)]
 fn begins_line_comment(bytes: &[u8]) -> bool
     ensures { result ≡ begins_line_comment bytes.now }
 {
@@ -168,7 +163,6 @@ fn begins_line_comment(bytes: &[u8]) -> bool
 }
 
 /// The place after a token, which begins at `place`. Only strings may have bytes over 127.
-#[inline]
 pub fn place_past(place: Place, kind: TokenKind, word: &[u8]) -> Place
     requires line { place.line + length word.now < 2 ^ 32 }
     requires col { place.col + length word.now < 2 ^ 32 }

@@ -38,7 +38,6 @@ pub struct Token<'a> {
 
 impl<'a> Token<'a> {
     /// What the token is, as its text tells.
-    #[inline(always)]
     pub fn kind(&self) -> TokenKind
         ensures { result ≡ kinds.kind_of self.now.text.now }
     {

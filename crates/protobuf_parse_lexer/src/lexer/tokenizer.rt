@@ -39,7 +39,6 @@ pub struct NextToken<'text> {
 
 impl<'text> NextToken<'text> {
     /// Whether the token is an identifier.
-    #[inline(always)]
     pub fn is_ident(&self) -> bool
         ensures { result ≡ class.is_ident_token self.now.kind }
     {
@@ -47,7 +46,6 @@ impl<'text> NextToken<'text> {
     }
 
     /// Whether the token is a string.
-    #[inline(always)]
     pub fn is_str(&self) -> bool
         ensures { result ≡ class.is_string self.now.kind }
     {
@@ -55,6 +53,7 @@ impl<'text> NextToken<'text> {
     }
 
     /// Whether the token is this symbol.
+    // Inlined: 1.5 % of the instructions for scalars.
     #[inline(always)]
     pub fn is_symbol(&self, symbol: char) -> bool
         ensures { result ≡ class.is_symbol_token symbol self.now.kind }
@@ -128,7 +127,6 @@ impl<'text> Tokenizer<'text> {
     }
 
     /// Goes past the next token, if one is left.
-    #[inline(always)]
     pub fn advance(&mut self)
         ensures { (s : Stream) → LiesAhead self.old s → LiesAhead self.new (behind s) }
     {
@@ -136,7 +134,6 @@ impl<'text> Tokenizer<'text> {
     }
 
     /// The same.
-    #[inline(always)]
     fn go_past(&mut self)
         ensures { lies_ahead self.new ≡ behind (lies_ahead self.old) }
     {
@@ -146,8 +143,8 @@ impl<'text> Tokenizer<'text> {
     }
 
     /// Cuts the token that comes first in the rest of the text. Most are an identifier, a symbol or
-    /// a short number behind blanks: they are cut without a call, by two thirds of the instructions.
-    #[inline(never)]
+    /// a short number behind blanks: they are cut without a call, by two thirds of the
+    /// instructions.
     fn cut_next(&mut self)
         ensures { lies_ahead self.new
             ≡ ahead self.old.brackets.opened self.old.brackets.closed self.old.after
@@ -170,6 +167,7 @@ impl<'text> Tokenizer<'text> {
     }
 
     /// The same, whatever comes first.
+    // Kept apart: 4.2 % of the instructions for scalars.
     #[inline(never)]
     fn cut_any(&mut self)
         ensures { lies_ahead self.new
@@ -194,7 +192,6 @@ impl<'text> Tokenizer<'text> {
     }
 
     /// Takes the token at the front of what is left of the text from `place` on.
-    #[inline(always)]
     fn take(&mut self, place: Place, front: &'text str, len: usize, kind: TokenKind)
         requires token { IsToken front.now len kind }
         requires lines { place.line + length front.now ≤ 2147483648 }
@@ -227,7 +224,6 @@ impl<'text> Tokenizer<'text> {
 }
 
 /// The counts behind the token, unless with it over 100 brackets are open.
-#[inline(always)]
 fn brackets_past(before: Brackets, kind: TokenKind) -> Option<Brackets>
     requires opens { before.opened ≤ 2147483647 }
     requires closes { before.closed ≤ 2147483647 }
@@ -257,6 +253,7 @@ fn brackets_past(before: Brackets, kind: TokenKind) -> Option<Brackets>
 }
 
 /// The place and the text behind the blanks at the front of a text, perhaps none.
+// Inlined: 0.8 % of the instructions for scalars.
 #[inline(always)]
 fn past_blanks(place: Place, text: &str) -> (Place, &str)
     requires line { place.line + length text.now < 2 ^ 32 }

@@ -15,8 +15,8 @@ returns-in-End c =
     let empty : length c.past_blanks.result.1.now
     ≡ 0 = omega (arith, ap length c.as_bytes.ensures.value, c.in-End.ensures) in
     c.end.ensures
-    ∙ sym (ahead_is c.pieces.self.brackets.opened c.pieces.self.brackets.closed c.past_blanks.result.0
-    c.past_blanks.result.1.now piece.End empty)
+    ∙ sym (ahead_is c.pieces.self.brackets.opened c.pieces.self.brackets.closed
+    c.past_blanks.result.0 c.past_blanks.result.1.now piece.End empty)
     ∙ c.past_blanks.ensures.same c.pieces.self.brackets.opened c.pieces.self.brackets.closed
     ∙ c.pieces.invariant.4
 
@@ -41,7 +41,8 @@ pieces-preserved c =
       omega (arith, ap length same),
       omega (arith, ap length same),
       behind_step c.pieces.self.brackets.opened c.pieces.self.brackets.closed
-          start at z c.split_at.result.0.now c.split_at.result.1.now n is c.split_at.ensures.front c.split_at.ensures.back
+          start at z c.split_at.result.0.now c.split_at.result.1.now n is
+          c.split_at.ensures.front c.split_at.ensures.back
           (subst (λ x. IsPlaceBefore c.split_at.result.1.now (after start x) at) same
           (subst (λ y. IsPlaceBefore y (after start c.as_bytes-in-Blank.result.now) at)
           c.as_bytes-in-Blank-2.ensures.value c.place_behind-place.ensures.value))
@@ -55,7 +56,8 @@ take-requires-clause-token c =
     c.in-Token.ensures
 
 pub returns-in-Token : goal.returns-in-Token
-returns-in-Token c = c.take.ensures ∙ c.past_blanks.ensures.same c.pieces.self.brackets.opened c.pieces.self.brackets.closed
+returns-in-Token c = c.take.ensures
+    ∙ c.past_blanks.ensures.same c.pieces.self.brackets.opened c.pieces.self.brackets.closed
     ∙ c.pieces.invariant.4
 
 pub returns-in-Fault : goal.returns-in-Fault
@@ -64,7 +66,7 @@ returns-in-Fault c =
     let e = c.in-Fault.field-0 in
     let is = subst (λ x. IsFault x e) c.as_bytes.ensures.value c.in-Fault.ensures in
     c.end-in-Fault.ensures
-    ∙ sym (ahead_is c.pieces.self.brackets.opened c.pieces.self.brackets.closed c.past_blanks.result.0 z
-    (piece.Fault e) is)
+    ∙ sym (ahead_is c.pieces.self.brackets.opened c.pieces.self.brackets.closed
+    c.past_blanks.result.0 z (piece.Fault e) is)
     ∙ c.past_blanks.ensures.same c.pieces.self.brackets.opened c.pieces.self.brackets.closed
     ∙ c.pieces.invariant.4
