@@ -1,7 +1,8 @@
 -- Full names by their hashes.
-use Rattle.std.proofs.Common.{◌≡◌, ◌⊎◌, inl, inr, ℕ, List, [], ◌∷◌, ◌++◌, Bool, true, false, cond, ap, sym, refl}
-use Rattle.std.proofs.Common.{◌∙◌, if◌then◌else◌, Option, Some, None, bytes_eq, nat_eq, append-nil}
-use Rattle.std.proofs.Common.{◌<◌, ◌≤◌, ◌-◌, zero, suc, arith, get_or, length, subst, slice_set}
+use Rattle.std.proofs.Common.{◌≡◌, ◌⊎◌, inl, inr, ℕ, List, [], ◌∷◌, ◌++◌, Bool, true, false, cond}
+use Rattle.std.proofs.Common.{ap, sym, refl, ◌∙◌, if◌then◌else◌, Option, Some, None, bytes_eq}
+use Rattle.std.proofs.Common.{nat_eq, append-nil, ◌<◌, ◌≤◌, ◌-◌, zero, suc, arith, get_or, length}
+use Rattle.std.proofs.Common.{subst, slice_set}
 use Rattle.std.specs.Prelude.{String, string_bytes, slice_get, IsSome, Result, Ok, Err, IfOk, OnErr}
 use Rattle.std.specs.Prelude.{OnOk}
 use Rattle.std.specs.declared.alloc.AllocError.{AllocError}

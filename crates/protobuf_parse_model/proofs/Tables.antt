@@ -144,15 +144,15 @@ in_one (x ∷ y ∷ ds) k default d few lt h = absurd (omega (arith, few))
 
 module _ (old : Declarations) (full : Text) (ds : List Declaration) (k : ℕ) (default : Declaration)
     (are : ds ≡ declared_as old full) (lt : k < length ds) where
-  -- the declaration at a place in the list
-  abbrev at_place : Declaration
-  at_place = get_or ds k default
+  -- the declaration at an index of the list
+  abbrev at_index : Declaration
+  at_index = get_or ds k default
 
   -- a name that is declared once
   pub lists_second : (between new : BTreeMap ℕ (Vec (String Global))) (file : ℕ) → length ds < 2
-      → KeepsListed old.repeated between → Contains (names_listed between at_place.file) full
+      → KeepsListed old.repeated between → Contains (names_listed between at_index.file) full
       → KeepsListed between new
-      → (Contains (names_listed between at_place.file) full
+      → (Contains (names_listed between at_index.file) full
       → Contains (names_listed new file) full)
       → ListsOne old new full file
   lists_second between new file few first is second next = record {
@@ -160,25 +160,25 @@ module _ (old : Declarations) (full : Text) (ds : List Declaration) (k : ℕ) (d
     earlier = λ was d h. subst (λ (x : Declaration). Contains (names_listed new x.file) full)
         (in_one ds k default d few lt
         (subst (λ (xs : List Declaration). Contains xs d) (sym are) h))
-        (second at_place.file full is);
+        (second at_index.file full is);
     again = λ was some. next is;
   }
 
   -- a name that is declared more than once
   pub lists_more : (new : BTreeMap ℕ (Vec (String Global))) (file : ℕ) → 1 < length ds
       → KeepsListed old.repeated new
-      → (Contains (listed_names old at_place.file) full → Contains (names_listed new file) full)
+      → (Contains (listed_names old at_index.file) full → Contains (names_listed new file) full)
       → ListsOne old new full file
   lists_more new file more kept next =
       let two : 1 < length (declared_as old full) =
       subst (λ (xs : List Declaration). 1 < length xs) are more in
-      let member : Contains (declared_as old full) at_place =
-      subst (λ (xs : List Declaration). Contains xs at_place) are
+      let member : Contains (declared_as old full) at_index =
+      subst (λ (xs : List Declaration). Contains xs at_index) are
       (Contains-get_or ds k default lt) in
       record {
         kept = kept;
         earlier = λ was d h. kept d.file full (was full two d h);
-        again = λ was some. next (was full two at_place member);
+        again = λ was some. next (was full two at_index member);
       }
 
 -- a name that is declared is listed, where it gets a declaration more

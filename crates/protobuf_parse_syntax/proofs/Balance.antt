@@ -7,7 +7,8 @@ use Rattle.std.proofs.lemmas.Bool.{eqb-true}
 use Rattle.std.proofs.lemmas.List.Sums.{sum_by-cons}
 use Rattle.std.proofs.lemmas.List.Elements.{All-nil, All-cons, All-tail, All-head}
 use Rattle.protobuf_parse_grammar.specs.Relations.{Nothing, Such, Never, One, Then, Either, Many}
-use Rattle.protobuf_parse_grammar.specs.Relations.{OneOrMore, Separated, none, more, Unless, At, somes}
+use Rattle.protobuf_parse_grammar.specs.Relations.{OneOrMore, Separated, none, more, Unless, At}
+use Rattle.protobuf_parse_grammar.specs.Relations.{somes}
 use Rattle.protobuf_parse_lexer.specs.Tokens.{Lexeme, is_opening, is_closing, opened, closed}
 use Rattle.protobuf_parse_lexer.specs.Tokens.{IsShallow}
 use Rattle.protobuf_parse_lexer.specs.declared.lexer.token.TokenKind.{TokenKind}

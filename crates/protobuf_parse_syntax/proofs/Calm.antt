@@ -1,8 +1,9 @@
 -- Readers of parts that meet nothing too deep, where at most 100 brackets are open inside one
 -- another.
-use Rattle.std.proofs.Common.{◌≡◌, ℕ, zero, suc, ◌<◌, Bool, true, false, List, [], ◌∷◌}
-use Rattle.std.proofs.Common.{◌++◌, cond, refl, sym, ap, subst, ◌∙◌, arith, length}
-use Rattle.protobuf_parse_grammar.specs.Relations.{Nothing, Then, Either, Many, Separated, Unless, At}
+use Rattle.std.proofs.Common.{◌≡◌, ℕ, zero, suc, ◌<◌, Bool, true, false, List, [], ◌∷◌, ◌++◌, cond}
+use Rattle.std.proofs.Common.{refl, sym, ap, subst, ◌∙◌, arith, length}
+use Rattle.protobuf_parse_grammar.specs.Relations.{Nothing, Then, Either, Many, Separated, Unless}
+use Rattle.protobuf_parse_grammar.specs.Relations.{At}
 use Rattle.protobuf_parse_grammar.specs.Readers.{Rest, Read, read, stuck, deep, bind, bind_deep}
 use Rattle.protobuf_parse_grammar.specs.Readers.{Shape, shape, Reader, size, starts, seen_by}
 use Rattle.protobuf_parse_grammar.specs.Combinators as reader

@@ -1,7 +1,7 @@
 -- A part of a file has no more statements than tokens.
-use Rattle.std.proofs.Common.{◌≡◌, ℕ, suc, zero, ◌+◌, ◌≤◌, Bool, List, [], ◌∷◌, ◌++◌, Option}
-use Rattle.std.proofs.Common.{Some, None, length, length-append, refl, ap, inl}
-use Rattle.std.proofs.Common.{inr, ◌⊎◌, arith, codes, sum_by}
+use Rattle.std.proofs.Common.{◌≡◌, ℕ, suc, zero, ◌+◌, ◌≤◌, Bool, List, [], ◌∷◌, ◌++◌, Option, Some}
+use Rattle.std.proofs.Common.{None, length, length-append, refl, ap, inl, inr, ◌⊎◌, arith, codes}
+use Rattle.std.proofs.Common.{sum_by}
 use Rattle.std.proofs.lemmas.List.Sums.{sum_by-cons}
 use Rattle.protobuf_parse_grammar.specs.Relations.{Nothing, Never, Level, One, Then, Either, Many}
 use Rattle.protobuf_parse_grammar.specs.Relations.{none, more, Unless, At, somes}
@@ -12,8 +12,8 @@ use Rattle.protobuf_parse_syntax.specs.declared.tree.Syntax.{Syntax}
 use Rattle.protobuf_parse_syntax.specs.declared.tree.Syntax.TheVariants.{Proto2, Proto3}
 use Rattle.protobuf_parse_syntax.specs.declared.tree.field.Label.{Label}
 use Rattle.protobuf_parse_syntax.specs.Grammar.{table_words, statement_words, labels, Item}
-use Rattle.protobuf_parse_syntax.specs.Grammar.{Statements, Braced, IsOption, NormalFieldOf, GroupOf}
-use Rattle.protobuf_parse_syntax.specs.Grammar.{AfterLabel, FieldOf, IsField, IsOneofField}
+use Rattle.protobuf_parse_syntax.specs.Grammar.{Statements, Braced, IsOption, NormalFieldOf}
+use Rattle.protobuf_parse_syntax.specs.Grammar.{GroupOf, AfterLabel, FieldOf, IsField, IsOneofField}
 use Rattle.protobuf_parse_syntax.specs.Grammar.{IsOneofStatement, IsOneof, IsExtend, IsReserved}
 use Rattle.protobuf_parse_syntax.specs.Grammar.{IsExtensions, IsEnumValue, IsEnumStatement, IsEnum}
 use Rattle.protobuf_parse_syntax.specs.Grammar.{IsExtensionsIn, MessageStatementOf, MessageOf}

@@ -1,7 +1,7 @@
 -- What readers of fields read.
 use Rattle.std.proofs.Common.{◌≡◌, ◌≤◌, ◌-◌, ℕ, suc, List, [], ◌∷◌, ◌++◌, Option, Some, None, Bool}
-use Rattle.std.proofs.Common.{true, false, not, is_some, ◌||◌, cond, bytes_eq, refl, ◌∙◌, codes, inl}
-use Rattle.std.proofs.Common.{arith}
+use Rattle.std.proofs.Common.{true, false, not, is_some, ◌||◌, cond, bytes_eq, refl, ◌∙◌, codes}
+use Rattle.std.proofs.Common.{inl, arith}
 use Rattle.protobuf_parse_grammar.specs.Relations.{somes}
 use Rattle.protobuf_parse_grammar.specs.Readers.{Rest, end, token, read, stuck, bind}
 use Rattle.protobuf_parse_grammar.specs.Relations.{seen}
@@ -12,8 +12,7 @@ use Rattle.protobuf_parse_grammar.specs.Conditions.{mark_of}
 use Rattle.protobuf_parse_lexer.specs.Text.{Bytes}
 use Rattle.protobuf_parse_lexer.specs.Tokens.{Lexeme}
 use Rattle.protobuf_parse_lexer.specs.Classes.{Class, symbol as symbol_class, word as word_class}
-use Rattle.protobuf_parse_lexer.specs.Classes.{ident as ident_class, sees, is_among}
-use Rattle.protobuf_parse_lexer.specs.Classes.{words}
+use Rattle.protobuf_parse_lexer.specs.Classes.{ident as ident_class, sees, is_among, words}
 use Rattle.protobuf_parse_lexer.specs.declared.error.ParserError.{ParserError}
 use Rattle.protobuf_parse_lexer.specs.declared.error.ParserError.TheVariants as error
 use Rattle.protobuf_parse_lexer.specs.declared.lexer.token.Place.{Place}

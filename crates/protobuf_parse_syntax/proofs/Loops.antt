@@ -6,10 +6,9 @@ use Rattle.std.proofs.lemmas.List.{map_push, append-nil}
 use Rattle.protobuf_parse_grammar.specs.Relations.{Then, somes}
 use Rattle.protobuf_parse_grammar.specs.Readers.{Rest, Read, read, stuck, wrong, deep, size, Shape}
 use Rattle.protobuf_parse_grammar.specs.Readers.{shape, Reader, starts}
-use Rattle.protobuf_parse_grammar.specs.Combinators.{then_shape, run_many, many-law}
-use Rattle.protobuf_parse_grammar.specs.Combinators.{shorter, ◌>>◌}
-use Rattle.protobuf_parse_grammar.specs.Loops.{Shows, shows_themselves, with_rest, goes_on, stops_here}
-use Rattle.protobuf_parse_grammar.specs.Loops.{ends_stuck, ends_wrong}
+use Rattle.protobuf_parse_grammar.specs.Combinators.{then_shape, run_many, many-law, shorter, ◌>>◌}
+use Rattle.protobuf_parse_grammar.specs.Loops.{Shows, shows_themselves, with_rest, goes_on}
+use Rattle.protobuf_parse_grammar.specs.Loops.{stops_here, ends_stuck, ends_wrong}
 use Rattle.protobuf_parse_lexer.specs.Text.{Bytes}
 use Rattle.protobuf_parse_lexer.specs.Tokens.{Lexeme}
 use Rattle.protobuf_parse_lexer.specs.Classes.{Class, symbol as symbol_class}

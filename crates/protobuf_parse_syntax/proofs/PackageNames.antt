@@ -3,7 +3,8 @@ use Rattle.std.proofs.Common.{◌≡◌, ℕ, ◌<◌, ◌≤◌, List, [], ◌�
 use Rattle.std.proofs.Common.{take, length-append, length-take, sym, subst, inl, inr, ◌⊎◌, arith}
 use Rattle.std.proofs.Common.{Bool, true, false}
 use Rattle.std.specs.List.{AllByRecursion, fold}
-use Rattle.protobuf_parse_grammar.specs.Relations.{Nothing, Then, Either, Many, none, more, At, somes}
+use Rattle.protobuf_parse_grammar.specs.Relations.{Nothing, Then, Either, Many, none, more, At}
+use Rattle.protobuf_parse_grammar.specs.Relations.{somes}
 use Rattle.protobuf_parse_lexer.specs.Text.{Bytes}
 use Rattle.protobuf_parse_lexer.specs.Tokens.{Lexeme}
 use Rattle.protobuf_parse_lexer.specs.Cut.{Cut, done, blank, token}

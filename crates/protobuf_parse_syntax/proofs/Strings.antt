@@ -4,10 +4,9 @@ use Rattle.std.proofs.Common.{Option, Some, None, codes, refl, ap, ◌∙◌, su
 use Rattle.std.specs.Str.{IsUtf8}
 use Rattle.std.proofs.lemmas.Str.{IsUtf8-from_ascii}
 use Rattle.protobuf_parse_base.specs.Paths.{IsProtoPath, path_fault}
-use Rattle.protobuf_parse_grammar.specs.Readers.{Rest, Read, read, stuck, wrong, deep, bind, bind_read}
-use Rattle.protobuf_parse_grammar.specs.Readers.{read_parts, size, starts}
-use Rattle.protobuf_parse_grammar.specs.Combinators.{run_many, many-law, shorter}
-use Rattle.protobuf_parse_grammar.specs.Combinators.{with_first}
+use Rattle.protobuf_parse_grammar.specs.Readers.{Rest, Read, read, stuck, wrong, deep, bind}
+use Rattle.protobuf_parse_grammar.specs.Readers.{bind_read, read_parts, size, starts}
+use Rattle.protobuf_parse_grammar.specs.Combinators.{run_many, many-law, shorter, with_first}
 use Rattle.protobuf_parse_grammar.specs.Conditions.{meaning}
 use Rattle.protobuf_parse_base.specs.declared.proto_path.error.PathError.{PathError}
 use Rattle.protobuf_parse_lexer.specs.Text.{Bytes}
@@ -27,8 +26,7 @@ use Rattle.protobuf_parse_syntax.specs.Trees.{Pieces}
 use Rattle.protobuf_parse_syntax.specs.Readings.{finding}
 use Rattle.protobuf_parse_syntax.specs.Grammar.{SaysVersion, SaysPath, name_of}
 use Rattle.protobuf_parse_syntax.specs.Said.{version_of, path_of}
-use Rattle.protobuf_parse_syntax.specs.SaidLaws.{version-to, version-from}
-use Rattle.protobuf_parse_syntax.specs.SaidLaws.{path-to, path-from}
+use Rattle.protobuf_parse_syntax.specs.SaidLaws.{version-to, version-from, path-to, path-from}
 use Rattle.protobuf_parse_syntax.specs.Productions.{str, piece, reserved_name, version, path}
 use Rattle.protobuf_parse_syntax.specs.ClassLaws.{lexicon}
 use Rattle.protobuf_parse_syntax.specs.Code.{Failure, at, off, too_deep, failed, Fails, Unsaid}

@@ -54,7 +54,8 @@ pub made_reads : {A B : Type 0} (f : A → B) (a : A) (b : B) (after : Rest Lexe
 made_reads f a b after r total h e v = h ∙ rw (e, v) refl
 
 -- a statement that was put behind a list, or what fails, where none of them is a semicolon
-pub puts_some : {X Y : Type 0} (view : X → Y) (result : Result (Unit {0}) Refusal) (old new : List X)
+pub puts_some : {X Y : Type 0} (view : X → Y) (result : Result (Unit {0}) Refusal)
+    (old new : List X)
     (after : Rest Lexeme Place) (r : Read Lexeme Place Y) (total : Read Lexeme Place (Option Y))
     → total ≡ made Some r → Puts view result old new after r
     → PutsSome view result old new after total

@@ -13,8 +13,7 @@ use Rattle.protobuf_parse_base.specs.declared.proto_path.error.PathError.{PathEr
 use Rattle.protobuf_parse_lexer.specs.Text.{Bytes, seen_by}
 use Rattle.protobuf_parse_lexer.specs.AheadViews.{lies_ahead}
 use Rattle.protobuf_parse_lexer.specs.Tokens.{Lexeme}
-use Rattle.protobuf_parse_lexer.specs.Classes.{Class, symbol, ident, is_one_of, float}
-use Rattle.protobuf_parse_lexer.specs.Classes.{is_floating}
+use Rattle.protobuf_parse_lexer.specs.Classes.{Class, symbol, ident, is_one_of, float, is_floating}
 use Rattle.protobuf_parse_lexer.specs.Cut.{Stream, out_of_memory, error_place}
 use Rattle.protobuf_parse_lexer.specs.Cut.{located as located_at}
 use Rattle.protobuf_parse_lexer.specs.declared.lexer.token.Place.{Place}
@@ -156,7 +155,8 @@ abbrev pub GivesSome : {X Y : Type 0} → (X → Y) → Option X → Rest Lexeme
 GivesSome view (Some x) before after r = r ≡ read (view x) after
 GivesSome view None before after r = after ≡ before
 
--- What a function put behind a list, seen by view, is what was read, and the cursor stands behind it
+-- What a function put behind a list, seen by view, is what was read, and the cursor stands behind
+-- it
 -- or at the fault, unless memory ran out.
 abbrev pub Puts : {X Y : Type 0} → (X → Y) → Result (Unit {0}) Refusal → List X → List X
     → Rest Lexeme Place → Read Lexeme Place Y → Type 0

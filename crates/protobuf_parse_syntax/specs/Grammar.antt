@@ -7,10 +7,9 @@
 use Rattle.std.specs.Prelude.{◌≤◌, ℕ, zero, suc, ℤ, pos, negsuc, nat_le, ◌&&◌, List, [], ◌∷◌, ◌++◌}
 use Rattle.std.specs.Prelude.{length, slice_index, Option, Some, None, Bool, true, false, cond}
 use Rattle.std.specs.Prelude.{bytes_eq, codes}
-use Rattle.protobuf_parse_grammar.specs.Relations.{Rel, Nothing, Such, Never, Level, One, Either, Many}
-use Rattle.protobuf_parse_grammar.specs.Relations.{OneOrMore, Separated, Unless, At, somes, ◌>>=◌}
-use Rattle.protobuf_parse_grammar.specs.Relations.{◌>>◌}
-use Rattle.protobuf_parse_grammar.specs.Relations.{AtSomeDepth}
+use Rattle.protobuf_parse_grammar.specs.Relations.{Rel, Nothing, Such, Never, Level, One, Either}
+use Rattle.protobuf_parse_grammar.specs.Relations.{Many, OneOrMore, Separated, Unless, At, somes}
+use Rattle.protobuf_parse_grammar.specs.Relations.{◌>>=◌, ◌>>◌, AtSomeDepth}
 use Rattle.protobuf_parse_base.specs.Paths.{IsProtoPath}
 use Rattle.protobuf_parse_lexer.specs.Text.{Bytes}
 use Rattle.protobuf_parse_base.specs.Characters as char

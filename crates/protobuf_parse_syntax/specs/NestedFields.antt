@@ -7,21 +7,19 @@ use Rattle.protobuf_parse_grammar.specs.Relations.{Rel, Then, Either, Many, Unle
 use Rattle.protobuf_parse_grammar.specs.Relations.{somes, Nothing}
 use Rattle.protobuf_parse_grammar.specs.Readers.{Rest, deep, read, Shape, nested, shape}
 use Rattle.protobuf_parse_grammar.specs.Loops.{with_rest}
-use Rattle.protobuf_parse_grammar.specs.Combinators.{then_shape}
-use Rattle.protobuf_parse_grammar.specs.Combinators.{either_shape, many_shape, run_many}
+use Rattle.protobuf_parse_grammar.specs.Combinators.{then_shape, either_shape, many_shape, run_many}
 use Rattle.protobuf_parse_grammar.specs.Relations as relation
 use Rattle.protobuf_parse_grammar.specs.Depth.{Near}
 use Rattle.protobuf_parse_grammar.specs.Pairs.{Pair, same, less, give, behind, choose, many, shaped}
-use Rattle.protobuf_parse_grammar.specs.Pairs.{unless, separated, at, both, none-le, level, level-zero}
-use Rattle.protobuf_parse_grammar.specs.Pairs.{level-suc, levels, ◌>>=◌, ◌>>◌}
+use Rattle.protobuf_parse_grammar.specs.Pairs.{unless, separated, at, both, none-le, level}
+use Rattle.protobuf_parse_grammar.specs.Pairs.{level-zero, level-suc, levels, ◌>>=◌, ◌>>◌}
 use Rattle.protobuf_parse_lexer.specs.Tokens.{Lexeme}
 use Rattle.protobuf_parse_lexer.specs.Classes.{Class, symbol as symbol_class, word as word_class}
 use Rattle.protobuf_parse_lexer.specs.Classes.{ident as ident_class, integer, text, words}
 use Rattle.protobuf_parse_lexer.specs.Classes.{is_one_of}
 use Rattle.protobuf_parse_lexer.specs.declared.lexer.token.Place.{Place}
 use Rattle.protobuf_parse_syntax.specs.Trees as tree
-use Rattle.protobuf_parse_syntax.specs.Trees.{ConstantSyntax, OptionSyntax}
-use Rattle.protobuf_parse_syntax.specs.Trees.{TypeSyntax}
+use Rattle.protobuf_parse_syntax.specs.Trees.{ConstantSyntax, OptionSyntax, TypeSyntax}
 use Rattle.protobuf_parse_syntax.specs.Trees.{FieldStatementSyntax}
 use Rattle.protobuf_parse_syntax.specs.ClassLaws.{lexicon}
 use Rattle.protobuf_parse_syntax.specs.Productions.{Parses, symbol, word, ident, capital, one_of}
@@ -33,8 +31,8 @@ use Rattle.protobuf_parse_syntax.specs.Grammar.{labels3, scalars, statement_word
 use Rattle.protobuf_parse_syntax.specs.Grammar.{Braced, ConstantFieldOf, MessageConstantOf, ListOf}
 use Rattle.protobuf_parse_syntax.specs.Grammar.{ConstantOf, IsConstant, MapOf, TypeOf, IsType}
 use Rattle.protobuf_parse_syntax.specs.Grammar.{IsComma, IsAssignment, IsOption, AreOptions}
-use Rattle.protobuf_parse_syntax.specs.Grammar.{NormalFieldOf, GroupOf, AfterLabel, FieldOf, IsField}
-use Rattle.protobuf_parse_syntax.specs.Grammar.{IsIdent, IsFieldNumber}
+use Rattle.protobuf_parse_syntax.specs.Grammar.{NormalFieldOf, GroupOf, AfterLabel, FieldOf}
+use Rattle.protobuf_parse_syntax.specs.Grammar.{IsField, IsIdent, IsFieldNumber}
 use Rattle.protobuf_parse_syntax.specs.declared.tree.Syntax.{Syntax}
 use Rattle.protobuf_parse_syntax.specs.declared.tree.Syntax.TheVariants.{Proto2, Proto3}
 use Rattle.protobuf_parse_syntax.specs.declared.tree.field.Label.{Label}

@@ -5,8 +5,8 @@
 use Rattle.std.proofs.Common.{◌≡◌, ◌≤◌, ℕ, suc, List, [], ◌∷◌, ◌++◌, length, Option, Some, Bool}
 use Rattle.std.proofs.Common.{true, false, cond, refl, sym, ap, subst, ◌∙◌, inl, inr, arith}
 use Rattle.std.proofs.lemmas.List.{append-nil}
-use Rattle.protobuf_parse_grammar.specs.Relations.{Rel, Nothing, Such, Never, Either, Many, none, more}
-use Rattle.protobuf_parse_grammar.specs.Relations.{◌>>=◌}
+use Rattle.protobuf_parse_grammar.specs.Relations.{Rel, Nothing, Such, Never, Either, Many, none}
+use Rattle.protobuf_parse_grammar.specs.Relations.{more, ◌>>=◌}
 use Rattle.protobuf_parse_grammar.specs.Restrictions.{Meant}
 use Rattle.protobuf_parse_grammar.specs.Readers.{Rest, end, token, onto, Read, read, stuck, wrong}
 use Rattle.protobuf_parse_grammar.specs.Readers.{Lexicon, Shape, shape, Sound, Reader, LocalAt}

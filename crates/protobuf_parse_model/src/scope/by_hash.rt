@@ -121,9 +121,9 @@ fn insert_in(
         declared_in_map by_hash.new text ≡ declared_in_map by_hash.old text) }
 {
     match by_hash.entry(hash)? {
-        Entry::Vacant(place) => {
+        Entry::Vacant(vacant) => {
             let declared = Declared::Once(declaration);
-            place.insert(OneHash::Name(DeclaredName { name, declared }));
+            vacant.insert(OneHash::Name(DeclaredName { name, declared }));
             Ok(None)
         }
         Entry::Occupied(_) => Ok(Some(name)),

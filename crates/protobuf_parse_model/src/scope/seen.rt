@@ -62,7 +62,8 @@ pub struct Declarations {
     /// What is declared, by the hashes of full names, since numbers are compared faster than texts:
     /// that saves 12 % of a run's instructions on messages of all kinds. Where hashes agree the
     /// texts decide, so that no choice of names makes the table slow. A map for each highest byte
-    /// of a hash, so that most are a node or two: 2 % more, and a fifth where many scopes are tried.
+    /// of a hash, so that most are a node or two: 2 % more, and a fifth where many scopes are
+    /// tried.
     pub by_hash: Vec<BTreeMap<u64, OneHash>>,
     /// By the number of a file, those of the full names that it declares which have more than one
     /// declaration.

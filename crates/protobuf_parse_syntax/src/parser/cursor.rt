@@ -38,7 +38,6 @@ impl<'text> Cursor<'text> {
     }
 
     /// Goes past the next token, if one is left.
-    #[inline(always)]
     fn advance(&mut self)
         ensures { lies_ahead self.new.tokens ≡ behind (lies_ahead self.old.tokens) }
     {
@@ -75,7 +74,6 @@ impl<'text> Cursor<'text> {
     }
 
     /// Reads this symbol. S8 at any other token.
-    #[inline(always)]
     pub fn symbol(&mut self, symbol: char) -> Result<(), Refusal>
         ensures { Gives (λ u. tt) result (left self.new)
             ((read.symbol symbol).run (left self.old)) }
@@ -84,7 +82,6 @@ impl<'text> Cursor<'text> {
     }
 
     /// Reads this symbol. The fault at any other token.
-    #[inline(always)]
     pub fn symbol_or(&mut self, symbol: char, fault: ParserError) -> Result<(), Refusal>
         requires { AtOneToken fault }
         ensures { Gives (λ u. tt) result (left self.new)
@@ -170,7 +167,6 @@ impl<'text> Cursor<'text> {
 
     /// Reads the name of what is declared, an identifier, which may be any word. S8 at any other
     /// token.
-    #[inline]
     pub fn ident_name(&mut self, alloc: Global) -> Result<Name, Refusal>
         ensures { Gives name_bytes result (left self.new) (read.ident.run (left self.old)) }
     {

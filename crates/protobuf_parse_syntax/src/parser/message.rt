@@ -122,7 +122,6 @@ fn message_statement(
 }
 
 /// The same of a statement that may be no field.
-#[inline(never)]
 #[cycle(message)]
 fn put_other_statement(
     alloc: Global,

@@ -15,7 +15,6 @@ use std::alloc::Global;
 const DOTTED_LEN: usize = 32;
 
 /// An identifier, with room behind it if a dot follows.
-#[inline(always)]
 fn first_part(alloc: Global, tokens: &mut Cursor<'_>) -> Result<String, Refusal>
     ensures { Gives string_bytes result (left tokens.new) (read.ident.run (left tokens.old)) }
 {

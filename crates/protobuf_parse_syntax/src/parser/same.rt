@@ -6,7 +6,6 @@ use protobuf_parse_lexer::byte_at;
 
 /// Whether two texts are the same. Most of those that differ have other lengths or begin otherwise,
 /// so that is looked at first.
-#[inline(always)]
 pub fn is_same(text: &str, other: &str) -> bool
     ensures { result ≡ bytes_eq text.now other.now }
 {

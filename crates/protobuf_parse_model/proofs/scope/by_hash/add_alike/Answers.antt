@@ -15,7 +15,8 @@ returns-clause-ok c =
     on_ok_weaker c.add_alike_in.result
     (adds_in_all c.args.maps.now.items maps before c.add_alike_in.new.by_hash
     (string_bytes c.args.name) map c.in_ok-make_room.ensures.same
-    (c.map_of-map.ensures ∙ ap map_of c.requires) there c.args.declaration) c.add_alike_in.ensures.ok
+    (c.map_of-map.ensures
+    ∙ ap map_of c.requires) there c.args.declaration) c.add_alike_in.ensures.ok
 
 pub returns-clause-err : goal.returns-clause-err
 returns-clause-err c =

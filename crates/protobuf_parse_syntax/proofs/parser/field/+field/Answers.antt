@@ -15,7 +15,8 @@ use Rattle.protobuf_parse_syntax.specs.declared.tree.Syntax.TheVariants.{Proto2}
 use Rattle.protobuf_parse_syntax.proofs.parser.field.+field.Goals as goal
 use Rattle.protobuf_parse_syntax.proofs.parser.field.+field.Goals.{field_of-else-is_none-via-then-is_none+else-matches}
 use Rattle.protobuf_parse_syntax.proofs.parser.field.+field.Goals.{field_of-else-is_none-via-else-is_none}
-use Rattle.protobuf_parse_syntax.proofs.parser.field.+field.Goals.{field_of-in-Proto2, field_of-in_default}
+use Rattle.protobuf_parse_syntax.proofs.parser.field.+field.Goals.{field_of-in-Proto2}
+use Rattle.protobuf_parse_syntax.proofs.parser.field.+field.Goals.{field_of-in_default}
 
 pub field_of-returns-then-not-begins_field : goal.field_of-returns-then-not-begins_field
 field_of-returns-then-not-begins_field t c =
