@@ -2,5 +2,5 @@ pub mod Inside
 pub mod Joining
 pub mod BuiltIn
 pub mod Synthetic
-pub mod Places
+pub mod Indices
 pub mod Lengths

@@ -10,27 +10,27 @@ use Rattle.std.proofs.lemmas.List.Elements.{filter-append}
 use Rattle.std.proofs.lemmas.Grind.{get_or-set_at}
 use Rattle.protobuf_parse_model.specs.Descriptors.{FieldDescriptor, field_view}
 use Rattle.protobuf_parse_model.specs.declared.descriptor.FieldDescriptorProto.{FieldDescriptorProto}
-use Rattle.protobuf_parse_descriptor_set.specs.OneofOrder.{is_place, is_member, members}
+use Rattle.protobuf_parse_descriptor_set.specs.OneofOrder.{is_index, is_member, members}
 use Rattle.protobuf_parse_descriptor_set.specs.OneofOrder.{is_one_optional, is_synthetic}
-use Rattle.protobuf_parse_descriptor_set.specs.Told.{Tells, place_among, are_any, has_members}
+use Rattle.protobuf_parse_descriptor_set.specs.Told.{Tells, index_among, are_any, has_members}
 
 -- ---- a list that tells
 
-tells_at : {X : Type 0} (f g : ℕ → X) (n place : ℕ) (xs : List X) (v : X) → place < n → Tells f n xs
-    → v ≡ g place → ((j : ℕ) → j ≢ place → g j ≡ f j) → (i : ℕ) (d : X) → i < n
-    → get_or (set xs place v) i d ≡ g i
-tells_at f g n place xs v lt t here others i d h =
-    elim (eqb_tells i place) [
-      | inl same ↦ get_or-set_at xs place i v d same.1 (omega (arith, t.count))
+tells_at : {X : Type 0} (f g : ℕ → X) (n index : ℕ) (xs : List X) (v : X) → index < n → Tells f n xs
+    → v ≡ g index → ((j : ℕ) → j ≢ index → g j ≡ f j) → (i : ℕ) (d : X) → i < n
+    → get_or (set xs index v) i d ≡ g i
+tells_at f g n index xs v lt t here others i d h =
+    elim (eqb_tells i index) [
+      | inl same ↦ get_or-set_at xs index i v d same.1 (omega (arith, t.count))
           ∙ here ∙ ap g (sym same.1)
-      | inr other ↦ get_or-set_other xs place i v d other.1 ∙ t.each i d h ∙ sym (others i other.1)
+      | inr other ↦ get_or-set_other xs index i v d other.1 ∙ t.each i d h ∙ sym (others i other.1)
     ]
 
-tells_set : {X : Type 0} (f g : ℕ → X) (n place : ℕ) (xs : List X) (v : X) → place < n
-    → Tells f n xs → v ≡ g place → ((j : ℕ) → j ≢ place → g j ≡ f j) → Tells g n (set xs place v)
-tells_set f g n place xs v lt t here others = record {
-  count = length-set xs place v ∙ t.count;
-  each = tells_at f g n place xs v lt t here others;
+tells_set : {X : Type 0} (f g : ℕ → X) (n index : ℕ) (xs : List X) (v : X) → index < n
+    → Tells f n xs → v ≡ g index → ((j : ℕ) → j ≢ index → g j ≡ f j) → Tells g n (set xs index v)
+tells_set f g n index xs v lt t here others = record {
+  count = length-set xs index v ∙ t.count;
+  each = tells_at f g n index xs v lt t here others;
 }
 
 tells_alike : {X : Type 0} (f g : ℕ → X) (n : ℕ) (xs : List X) → Tells f n xs
@@ -76,41 +76,41 @@ any_more : {X : Type 0} (xs : List X) (x : X) → true ≡ are_any (xs ++ x ∷ 
 any_more [] x = refl
 any_more (y ∷ ys) x = refl
 
--- ---- the place that a field says
+-- ---- the index that a field says
 
--- It is one of the places, and no other is.
-record SaysPlace (count place : ℕ) (o : Option ℤ) : Type 0 where
-  within : place < count
-  here : is_place place o ≡ true
-  others : (j : ℕ) → j ≢ place → is_place j o ≡ false
+-- It is one of the indices, and no other is.
+record SaysIndex (count index : ℕ) (o : Option ℤ) : Type 0 where
+  within : index < count
+  here : is_index index o ≡ true
+  others : (j : ℕ) → j ≢ index → is_index j o ≡ false
 
-says_this : (count place i : ℕ) (b : Bool) → nat_lt i count ≡ b
-    → (if b then Some i else None) ≡ Some place → SaysPlace count place (Some (pos i))
-says_this count place i false lt e = absurd cc
-says_this count place i true lt e =
-    let same : i ≡ place = cc in
+says_this : (count index i : ℕ) (b : Bool) → nat_lt i count ≡ b
+    → (if b then Some i else None) ≡ Some index → SaysIndex count index (Some (pos i))
+says_this count index i false lt e = absurd cc
+says_this count index i true lt e =
+    let same : i ≡ index = cc in
     record {
       within = subst (λ z. z < count) same (ltb-true i count lt);
-      here = eq-eqb i place same;
+      here = eq-eqb i index same;
       others = λ j other. ne_eqb i j (λ h. other (sym h ∙ same));
     }
 
-says_place : (count place : ℕ) (o : Option ℤ) → place_among count o ≡ Some place
-    → SaysPlace count place o
-says_place count place None e = absurd cc
-says_place count place (Some (pos i)) e = says_this count place i (nat_lt i count) refl e
-says_place count place (Some (negsuc i)) e = absurd cc
+says_index : (count index : ℕ) (o : Option ℤ) → index_among count o ≡ Some index
+    → SaysIndex count index o
+says_index count index None e = absurd cc
+says_index count index (Some (pos i)) e = says_this count index i (nat_lt i count) refl e
+says_index count index (Some (negsuc i)) e = absurd cc
 
-says_no_place : (count i : ℕ) (b : Bool) → nat_lt i count ≡ b
+says_no_index : (count i : ℕ) (b : Bool) → nat_lt i count ≡ b
     → (if b then Some i else None) ≡ None → (j : ℕ) → j < count → (i == j) ≡ false
-says_no_place count i true lt e j h = absurd cc
-says_no_place count i false lt e j h =
+says_no_index count i true lt e j h = absurd cc
+says_no_index count i false lt e j h =
     ne_eqb i j (λ same. absurd (omega (arith, ltb-false i count lt)))
 
-says_none : (count : ℕ) (o : Option ℤ) → place_among count o ≡ None → (j : ℕ) → j < count
-    → is_place j o ≡ false
+says_none : (count : ℕ) (o : Option ℤ) → index_among count o ≡ None → (j : ℕ) → j < count
+    → is_index j o ≡ false
 says_none count None e j h = refl
-says_none count (Some (pos i)) e j h = says_no_place count i (nat_lt i count) refl e j h
+says_none count (Some (pos i)) e j h = says_no_index count i (nat_lt i count) refl e j h
 says_none count (Some (negsuc i)) e j h = refl
 
 -- ---- what both lists tell then
@@ -122,7 +122,7 @@ pub record TellsMembers (fs : List FieldDescriptor) (count : ℕ)
   pub members : Tells (has_members fs) count any
 
 pub no_member_more : (fs : List FieldDescriptor) (f : FieldDescriptor) (count : ℕ)
-    (made any : List Bool) → place_among count f.oneof_index ≡ None
+    (made any : List Bool) → index_among count f.oneof_index ≡ None
     → TellsMembers fs count made any → TellsMembers (fs ++ f ∷ []) count made any
 no_member_more fs f count made any none t =
     let stays : (j : ℕ) → j < count → members (fs ++ f ∷ []) j ≡ members fs j =
@@ -132,43 +132,43 @@ no_member_more fs f count made any none t =
       members = tells_alike _ _ count any t.members (λ j h. ap are_any (stays j h));
     }
 
-member_more : (fs : List FieldDescriptor) (f : FieldDescriptor) (count place : ℕ)
-    (made any : List Bool) (v d : Bool) → place_among count f.oneof_index ≡ Some place
+member_more : (fs : List FieldDescriptor) (f : FieldDescriptor) (count index : ℕ)
+    (made any : List Bool) (v d : Bool) → index_among count f.oneof_index ≡ Some index
     → TellsMembers fs count made any
-    → v ≡ (if f.proto3_optional then not (get_or any place d) else false)
-    → TellsMembers (fs ++ f ∷ []) count (set made place v) (set any place true)
-member_more fs f count place made any v d says t is =
-    let s = says_place count place f.oneof_index says in
-    let stays : (j : ℕ) → j ≢ place → members (fs ++ f ∷ []) j ≡ members fs j =
+    → v ≡ (if f.proto3_optional then not (get_or any index d) else false)
+    → TellsMembers (fs ++ f ∷ []) count (set made index v) (set any index true)
+member_more fs f count index made any v d says t is =
+    let s = says_index count index f.oneof_index says in
+    let stays : (j : ℕ) → j ≢ index → members (fs ++ f ∷ []) j ≡ members fs j =
     λ j h. others_stay fs f j (s.others j h) in
-    let more : members (fs ++ f ∷ []) place ≡ members fs place ++ f ∷ [] =
-    one_more fs f place s.here in
-    let had : get_or any place d ≡ are_any (members fs place) = t.members.each place d s.within in
+    let more : members (fs ++ f ∷ []) index ≡ members fs index ++ f ∷ [] =
+    one_more fs f index s.here in
+    let had : get_or any index d ≡ are_any (members fs index) = t.members.each index d s.within in
     record {
-      synthetic = tells_set _ _ count place made v s.within t.synthetic
-          (one_optional_more (members fs place) f v
+      synthetic = tells_set _ _ count index made v s.within t.synthetic
+          (one_optional_more (members fs index) f v
           (is ∙ ap (λ b. if f.proto3_optional then not b else false) had)
           ∙ ap is_one_optional (sym more)) (λ j h. ap is_one_optional (stays j h));
-      members = tells_set _ _ count place any true s.within t.members
-          (any_more (members fs place) f ∙ ap are_any (sym more))
+      members = tells_set _ _ count index any true s.within t.members
+          (any_more (members fs index) f ∙ ap are_any (sym more))
           (λ j h. ap are_any (stays j h));
     }
 
-pub optional_more : (fs : List FieldDescriptor) (f : FieldDescriptor) (count place : ℕ)
-    (made any : List Bool) (v d : Bool) → place_among count f.oneof_index ≡ Some place
-    → TellsMembers fs count made any → f.proto3_optional ≡ true → v ≡ not (get_or any place d)
-    → TellsMembers (fs ++ f ∷ []) count (set made place v) (set any place true)
-optional_more fs f count place made any v d says t yes_it_is is =
-    member_more fs f count place made any v d says t
-    (is ∙ sym (ap (λ b. if b then not (get_or any place d) else false) yes_it_is))
+pub optional_more : (fs : List FieldDescriptor) (f : FieldDescriptor) (count index : ℕ)
+    (made any : List Bool) (v d : Bool) → index_among count f.oneof_index ≡ Some index
+    → TellsMembers fs count made any → f.proto3_optional ≡ true → v ≡ not (get_or any index d)
+    → TellsMembers (fs ++ f ∷ []) count (set made index v) (set any index true)
+optional_more fs f count index made any v d says t yes_it_is is =
+    member_more fs f count index made any v d says t
+    (is ∙ sym (ap (λ b. if b then not (get_or any index d) else false) yes_it_is))
 
-pub other_more : (fs : List FieldDescriptor) (f : FieldDescriptor) (count place : ℕ)
-    (made any : List Bool) (v : Bool) → place_among count f.oneof_index ≡ Some place
+pub other_more : (fs : List FieldDescriptor) (f : FieldDescriptor) (count index : ℕ)
+    (made any : List Bool) (v : Bool) → index_among count f.oneof_index ≡ Some index
     → TellsMembers fs count made any → f.proto3_optional ≡ false → v ≡ f.proto3_optional
-    → TellsMembers (fs ++ f ∷ []) count (set made place v) (set any place true)
-other_more fs f count place made any v says t it_is_not is =
-    member_more fs f count place made any v false says t
-    (is ∙ it_is_not ∙ sym (ap (λ b. if b then not (get_or any place false) else false) it_is_not))
+    → TellsMembers (fs ++ f ∷ []) count (set made index v) (set any index true)
+other_more fs f count index made any v says t it_is_not is =
+    member_more fs f count index made any v false says t
+    (is ∙ it_is_not ∙ sym (ap (λ b. if b then not (get_or any index false) else false) it_is_not))
 
 -- of the fields up to the next
 pub fields_more : (fields : List FieldDescriptorProto) (k : ℕ) (f : FieldDescriptorProto)

@@ -1,5 +1,5 @@
 -- Descriptors as the messages of google/protobuf/descriptor.proto: a line a field, with its number
--- there, in the order of numbers. What has no line is never written. Numbers of ranges, places of
+-- there, in the order of numbers. What has no line is never written. Numbers of ranges, indices of
 -- imports and of oneofs are int32, as there; labels and types are enums.
 use Rattle.std.specs.Prelude.{ℕ, List, [], ◌++◌, Option, Some, None}
 use Rattle.std.specs.Prelude.{bytes_eq, codes, flat_map, if◌then◌else◌}

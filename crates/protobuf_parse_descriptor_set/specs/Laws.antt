@@ -6,7 +6,7 @@ use Rattle.protobuf_parse_model.specs.Descriptors.{FieldDescriptor, OneofDescrip
 use Rattle.protobuf_parse_wire.specs.Trees.{Entries, entry}
 use Rattle.protobuf_parse_wire.specs.Wire.{Spells}
 use Rattle.protobuf_parse_descriptor_set.specs.Items.{Items}
-use Rattle.protobuf_parse_descriptor_set.specs.OneofOrder.{synthetic, oneofs_in_set, place_in_set}
+use Rattle.protobuf_parse_descriptor_set.specs.OneofOrder.{synthetic, oneofs_in_set, moved_index}
 use Rattle.protobuf_parse_descriptor_set.specs.OneofOrder.{field_in_set}
 
 -- ---- options
@@ -43,4 +43,4 @@ pub record OneofsAreMoved (m : MessageParts) : Type 0 where
       → f.oneof_index ≡ g.oneof_index
   pub last : (i j : ℕ) → i < length m.oneof_decl → j < length m.oneof_decl
       → slice_index_or (synthetic m) i false ≡ false → slice_index_or (synthetic m) j false ≡ true
-      → place_in_set (synthetic m) i < place_in_set (synthetic m) j
+      → moved_index (synthetic m) i < moved_index (synthetic m) j

@@ -34,10 +34,10 @@ const FIELD_LEN: usize = 64;
 /// numbers (`specs/DescriptorItems.antt` has a line a field). What is absent or false isn't
 /// written, nor an options message in which nothing is set, nor a syntax but `proto3`. The bytes of
 /// custom options stand as they are, behind the built-in options. Synthetic oneofs stand behind the
-/// others, since readers refuse them elsewhere, and `oneof_index` says the new places.
+/// others, since readers refuse them elsewhere, and `oneof_index` says the new indices.
 ///
 /// The one error is that memory is short. A message with 2^31 oneofs or more counts as such: no
-/// `oneof_index` could tell their places, and no reader takes a message of its size.
+/// `oneof_index` could tell their indices, and no reader takes a message of its size.
 ///
 /// ```
 /// let parsed = parser.parse_and_typecheck(&rt)?;

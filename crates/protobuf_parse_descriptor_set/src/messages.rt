@@ -10,7 +10,7 @@ ghost use Rattle.protobuf_parse_descriptor_set.specs.Told.{index_by, of_kind};
 ghost use Rattle.protobuf_parse_descriptor_set.specs.DescriptorItems as spec;
 
 use crate::numbers::{label_number, type_number};
-use crate::oneofs::{index_in_set, new_places, synthetic_oneofs};
+use crate::oneofs::{index_in_set, new_indices, synthetic_oneofs};
 use crate::options::put_options_of_field;
 use crate::parts::{Described, begin_message, end_message, put_options, put_part, put_parts};
 use crate::records::{
@@ -34,9 +34,9 @@ pub fn put_messages(
         (map model.message_view messages.now)) out.old.items out.new.items) }
 {
     for message in messages {
-        let place = begin_message(out, number)?;
+        let start = begin_message(out, number)?;
         put_inside(alloc, out, message)?;
-        end_message(out, place)?;
+        end_message(out, start)?;
     }
     Ok(())
 }
@@ -69,7 +69,7 @@ fn put_message_front(
     put_fields(alloc, out, &message.field, synthetic)
 }
 
-/// Writes the fields, each with the new place of its oneof.
+/// Writes the fields, each with the new index of its oneof.
 fn put_fields(
     alloc: Global,
     out: &mut Vec<u8>,
@@ -81,27 +81,27 @@ fn put_fields(
         (map (order.field_in_set synthetic.now) (map model.field_view fields.now)))
         out.old.items out.new.items) }
 {
-    let places = new_places(alloc, synthetic)?;
+    let indices = new_indices(alloc, synthetic)?;
     for field in fields {
-        let place = begin_message(out, 2)?;
-        put_field_in_set(out, field, &places)?;
-        end_message(out, place)?;
+        let start = begin_message(out, 2)?;
+        put_field_in_set(out, field, &indices)?;
+        end_message(out, start)?;
     }
     Ok(())
 }
 
-/// Writes a field with the new place of its oneof.
+/// Writes a field with the new index of its oneof.
 fn put_field_in_set(
     out: &mut Vec<u8>,
     field: &FieldDescriptorProto,
-    places: &[usize],
+    indices: &[usize],
 ) -> Result<(), AllocError>
     ensures { OnOk result
         (Writes (spec.field_items (order.field_at (model.field_view field.now)
-        (index_by places.now (model.field_view field.now).oneof_index)))
+        (index_by indices.now (model.field_view field.now).oneof_index)))
         out.old.items out.new.items) }
 {
-    let index = index_in_set(places, &field.oneof_index)?;
+    let index = index_in_set(indices, &field.oneof_index)?;
     put_field(out, field, &index)
 }
 
@@ -157,8 +157,8 @@ fn put_oneofs_of_kind(
         (of_kind kind synthetic.now (map model.oneof_view oneofs.now)))
         out.old.items out.new.items) }
 {
-    for (place, oneof) in oneofs.iter().enumerate() {
-        if synthetic[place] == kind {
+    for (index, oneof) in oneofs.iter().enumerate() {
+        if synthetic[index] == kind {
             put_part(alloc, out, 8, oneof)?;
         }
     }
@@ -178,7 +178,7 @@ impl Described for FieldDescriptorProto {
     }
 }
 
-/// Writes a field with this place of its oneof.
+/// Writes a field with this index of its oneof.
 #[tactic(auto, unfolding(crate::specs::DescriptorItems::field_items))]
 fn put_field(
     out: &mut Vec<u8>,

@@ -21,10 +21,10 @@ pub fn synthetic_oneofs(
     let mut synthetic = vec![in alloc; false; count]?;
     let mut has_members = vec![in alloc; false; count]?;
     for field in fields {
-        match place_among(count, &field.oneof_index) {
-            Some(place) => {
-                synthetic[place] = field.proto3_optional && !has_members[place];
-                has_members[place] = true;
+        match index_among(count, &field.oneof_index) {
+            Some(oneof) => {
+                synthetic[oneof] = field.proto3_optional && !has_members[oneof];
+                has_members[oneof] = true;
             }
             None => {}
         }
@@ -32,14 +32,14 @@ pub fn synthetic_oneofs(
     Ok(synthetic)
 }
 
-/// The place that an index says, among so many.
-fn place_among(count: usize, index: &Option<i32>) -> Option<usize>
-    ensures { result ≡ told.place_among count index.now }
+/// The index, if it is that of one of so many.
+fn index_among(count: usize, index: &Option<i32>) -> Option<usize>
+    ensures { result ≡ told.index_among count index.now }
 {
     match index {
         Some(index) if *index >= 0 => {
-            let place = index.unsigned_abs() as usize;
-            if place < count { Some(place) } else { None }
+            let at = index.unsigned_abs() as usize;
+            if at < count { Some(at) } else { None }
         }
         _ => None,
     }
@@ -47,23 +47,23 @@ fn place_among(count: usize, index: &Option<i32>) -> Option<usize>
 
 /// Where each of the oneofs comes to stand: those that are no synthetic ones from 0 on, then those
 /// that are, each kind in order.
-pub fn new_places(alloc: Global, synthetic: &[bool]) -> Result<Vec<usize>, AllocError>
-    ensures { IfOk result (λ places. Tells
-        (spec.new_place synthetic.now) (length synthetic.now) places.items) }
+pub fn new_indices(alloc: Global, synthetic: &[bool]) -> Result<Vec<usize>, AllocError>
+    ensures { IfOk result (λ indices. Tells
+        (spec.new_index synthetic.now) (length synthetic.now) indices.items) }
 {
     let mut next_written: usize = 0;
     let mut next_synthetic = written_count(synthetic);
-    let mut places = Vec::with_capacity(alloc, synthetic.len())?;
+    let mut indices = Vec::with_capacity(alloc, synthetic.len())?;
     for is_synthetic in synthetic {
         if *is_synthetic {
-            places.push(next_synthetic)?;
+            indices.push(next_synthetic)?;
             next_synthetic += 1;
         } else {
-            places.push(next_written)?;
+            indices.push(next_written)?;
             next_written += 1;
         }
     }
-    Ok(places)
+    Ok(indices)
 }
 
 /// How many of the oneofs are no synthetic ones.
@@ -79,13 +79,13 @@ fn written_count(synthetic: &[bool]) -> usize
     count
 }
 
-/// The index of a field by the new places of oneofs. One that is the place of no oneof stays.
-pub fn index_in_set(places: &[usize], index: &Option<i32>) -> Result<Option<i32>, AllocError>
-    ensures { IfOk result (λ moved. moved ≡ told.index_by places.now index.now) }
+/// The index of a field by the new indices of oneofs. One that is that of no oneof stays.
+pub fn index_in_set(indices: &[usize], index: &Option<i32>) -> Result<Option<i32>, AllocError>
+    ensures { IfOk result (λ moved. moved ≡ told.index_by indices.now index.now) }
 {
-    match place_among(places.len(), index) {
+    match index_among(indices.len(), index) {
         None => Ok(*index),
-        Some(place) => match i32::try_from(places[place]) {
+        Some(oneof) => match i32::try_from(indices[oneof]) {
             Ok(index) => Ok(Some(index)),
             Err(_) => Err(AllocError),
         },

@@ -1,4 +1,4 @@
-//! Messages inside messages: each is written in its place, behind a byte for its length. So no list
+//! Messages inside messages: each is written where it goes, behind a byte for its length. So no list
 //! but the result holds what is written.
 
 ghost use Rattle.std.specs.Prelude.{◌≡◌, ◌++◌, ◌∷◌, ◌+◌, ◌-◌, ◌*◌, ◌<◌, [], List, ℕ, OnOk, IfOk};
@@ -68,9 +68,9 @@ pub fn put_part<P: Described>(
     ensures { OnOk result
         (Writes (spec.part number (P.items (P.view part.now))) out.old.items out.new.items) }
 {
-    let place = begin_message(out, number)?;
+    let start = begin_message(out, number)?;
     part.put(alloc, out)?;
-    end_message(out, place)
+    end_message(out, start)
 }
 
 /// Writes the options where any are set.
@@ -100,51 +100,48 @@ pub fn put_options_message<O: Options>(
         (Writes (spec.options number (O.bytes (O.view options.now))) out.old.items out.new.items) }
 {
     let before = out.len();
-    let place = begin_message(out, number)?;
+    let start = begin_message(out, number)?;
     options.put(out)?;
-    if out.len() == place + 1 {
+    if out.len() == start + 1 {
         // Nothing is set.
         out.truncate(before);
         return Ok(());
     }
-    end_message(out, place)
+    end_message(out, start)
 }
 
 /// Begins a message with that field number: writes its tag, and a byte for its length. Gives the
-/// place of that byte.
-#[inline(always)]
+/// index of that byte.
 pub fn begin_message(out: &mut Vec<u8>, number: u32) -> Result<usize, AllocError>
     ensures begun { OnOk result
         (out.new.items ≡ out.old.items ++ (varint_of (number * 8 + 2) ++ 0 ∷ [])) }
-    ensures place { IfOk result (λ place. place + 1 ≡ length out.new.items) }
+    ensures start { IfOk result (λ start. start + 1 ≡ length out.new.items) }
 {
     put_bytes(out, number, &[])?;
     Ok(out.len() - 1)
 }
 
-/// Ends a message, which goes on to the last byte: writes its length where a byte has its place.
-#[inline(always)]
-pub fn end_message(out: &mut Vec<u8>, place: usize) -> Result<(), AllocError>
-    requires { place < length out.old.items }
+/// Ends a message, which goes on to the last byte: writes its length where a byte is kept for it.
+pub fn end_message(out: &mut Vec<u8>, start: usize) -> Result<(), AllocError>
+    requires { start < length out.old.items }
     ensures { OnOk result (out.new.items
-        ≡ take place out.old.items ++ delimited (drop (place + 1) out.old.items)) }
+        ≡ take start out.old.items ++ delimited (drop (start + 1) out.old.items)) }
 {
-    let count = out.len() - place - 1;
+    let count = out.len() - start - 1;
     if count < 128 {
-        out[place] = count as u8;
+        out[start] = count as u8;
         return Ok(());
     }
-    put_long_length(out, place, count)
+    put_long_length(out, start, count)
 }
 
-/// Writes the length of what stands behind the place. Its last byte has the place; the others are
-/// written behind all, and then moved before it at once.
-#[inline(never)]
-fn put_long_length(out: &mut Vec<u8>, place: usize, count: usize) -> Result<(), AllocError>
-    requires within { place < length out.old.items }
-    requires is_length { count ≡ length out.old.items - place - 1 }
+/// Writes the length of what stands behind the byte that is kept for it. Its last byte goes there;
+/// the others are written behind all, and then moved before it at once.
+fn put_long_length(out: &mut Vec<u8>, start: usize, count: usize) -> Result<(), AllocError>
+    requires within { start < length out.old.items }
+    requires is_length { count ≡ length out.old.items - start - 1 }
     ensures { OnOk result (out.new.items
-        ≡ take place out.old.items ++ delimited (drop (place + 1) out.old.items)) }
+        ≡ take start out.old.items ++ delimited (drop (start + 1) out.old.items)) }
 {
     let end = out.len();
     let mut rest = count as u64;
@@ -152,8 +149,8 @@ fn put_long_length(out: &mut Vec<u8>, place: usize, count: usize) -> Result<(), 
         out.push((rest & 0x7f) as u8 | 0x80)?;
         rest >>= 7;
     }
-    out[place] = rest as u8;
+    out[start] = rest as u8;
     let groups = out.len() - end;
-    out[place..].rotate_right(groups);
+    out[start..].rotate_right(groups);
     Ok(())
 }

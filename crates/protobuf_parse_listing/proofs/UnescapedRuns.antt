@@ -49,7 +49,7 @@ module _ (q : ℕ → Bool) (z : List ℕ) where
   cut at = ap (list_all q) (sym (take-append-drop at z))
       ∙ list_all-append q (take at z) (drop at z)
 
-  -- of the bytes before a place too
+  -- of the bytes before an index too
   cut_of : (at last : ℕ) → last ≤ at → list_all q (take at z)
       ≡ (list_all q (take last z) && list_all q (drop last (take at z)))
   cut_of at last le = ap (list_all q) (sym (take-append-drop last (take at z)))

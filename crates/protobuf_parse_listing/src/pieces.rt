@@ -19,7 +19,7 @@ use std::simd::prelude::*;
 // How many bytes are printable in ASCII, the first of them the space.
 const PRINTABLE: u8 = b'~' - b' ' + 1;
 
-// Each byte that is not escaped stands at its own place, and an apostrophe at every other place.
+// Each byte that is not escaped stands at its own index, and an apostrophe at every other.
 static UNESCAPED_MAP: [u8; 256] = *b"\
     ''''''''''''''''''''''''''''''''\
     \x20!'#$%&'()*+,-./0123456789:;<=>?\
@@ -40,7 +40,6 @@ pub fn put_line(text: &mut String, level: usize, words: &str, rest: &str) -> Res
 }
 
 /// The first words of a line.
-#[inline(always)]
 pub fn begin_line(text: &mut String, level: usize, words: &str) -> Result<(), AllocError>
     ensures { Puts result text.old text.new (replicate (2 * level) char.space ++ words.now) }
 {
@@ -114,6 +113,7 @@ fn put_range_words(text: &mut String, start: i32, end: i32) -> Result<(), AllocE
 }
 
 /// The number in decimal digits: most have one.
+// Inlined: 0.9 % of the instructions for scalars.
 #[inline(always)]
 #[tactic(auto, using(std::proofs::lemmas::Fmt::decimal_digit))]
 pub fn put_number(text: &mut String, number: i32) -> Result<(), AllocError>
@@ -147,6 +147,7 @@ pub fn put_quoted(alloc: Global, text: &mut String, words: &str) -> Result<(), A
 }
 
 /// The words as they are escaped between double quotes, and the closing one.
+// Inlined: 1.3 % of the instructions for scalars.
 #[inline(always)]
 pub fn end_quoted(alloc: Global, text: &mut String, words: &str) -> Result<(), AllocError>
     ensures { Puts result text.old text.new (escaped_bytes words.now ++ char.quote ∷ []) }
@@ -156,6 +157,7 @@ pub fn end_quoted(alloc: Global, text: &mut String, words: &str) -> Result<(), A
 }
 
 /// The words as they are escaped between double quotes: most as they are.
+// Inlined: 1.3 % of the instructions for scalars.
 #[inline(always)]
 fn put_escaped(alloc: Global, text: &mut String, words: &str) -> Result<(), AllocError>
     ensures { Puts result text.old text.new (escaped_bytes words.now) }
@@ -169,7 +171,6 @@ fn put_escaped(alloc: Global, text: &mut String, words: &str) -> Result<(), Allo
 
 /// The same where some byte is escaped: apart, so that the room of this is not cleared for each
 /// name.
-#[inline(never)]
 fn put_escapes(alloc: Global, text: &mut String, words: &str) -> Result<(), AllocError>
     ensures { Puts result text.old text.new (escaped_bytes words.now) }
 {
@@ -178,7 +179,6 @@ fn put_escapes(alloc: Global, text: &mut String, words: &str) -> Result<(), Allo
 }
 
 /// Whether each byte stands between double quotes as it is: in short words one by one.
-#[inline(always)]
 fn is_unescaped(words: &str) -> bool
     ensures { result ≡ list_all unescaped.is_unescaped_byte words.now }
 {
@@ -194,7 +194,6 @@ fn is_unescaped(words: &str) -> bool
 
 /// The same, N bytes at a time. The last N are looked at together, even if some of them were
 /// before.
-#[inline(always)]
 fn are_unescaped<const N: usize>(bytes: &[u8]) -> bool
     requires lanes { (0 < N) × (N ≤ 64) }
     requires long { N ≤ length bytes.now }
@@ -211,7 +210,6 @@ fn are_unescaped<const N: usize>(bytes: &[u8]) -> bool
     is_unescaped_run::<N>(bytes, last)
 }
 
-#[inline(always)]
 fn is_unescaped_run<const N: usize>(bytes: &[u8], at: usize) -> bool
     requires lanes { N ≤ 64 }
     requires room { at + N ≤ length bytes.now }

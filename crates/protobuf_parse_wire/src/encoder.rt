@@ -141,7 +141,6 @@ fn zigzag_of(number: i64) -> u64
 }
 
 /// Writes the length of the bytes, and them.
-#[inline(always)]
 fn put_delimited(out: &mut Vec<u8>, inside: &[u8]) -> Result<(), AllocError>
     ensures { OnOk result (out.new.items ≡ out.old.items ++ delimited inside.now) }
 {
@@ -150,7 +149,6 @@ fn put_delimited(out: &mut Vec<u8>, inside: &[u8]) -> Result<(), AllocError>
 }
 
 /// Writes the shortest varint.
-#[inline(always)]
 fn put_varint(out: &mut Vec<u8>, number: u64) -> Result<(), AllocError>
     ensures { OnOk result (out.new.items ≡ out.old.items ++ varint_of number) }
 {

@@ -5,8 +5,8 @@ use Rattle.protobuf_parse_model.specs.Descriptors.{MessageParts}
 use Rattle.protobuf_parse_descriptor_set.specs.OneofOrder.{is_synthetic, synthetic, oneofs_in_set}
 use Rattle.protobuf_parse_descriptor_set.specs.OneofOrder.{index_in_set}
 use Rattle.protobuf_parse_descriptor_set.specs.Laws.{oneof_at}
-use Rattle.protobuf_parse_descriptor_set.proofs.Places.{is_permutation, placed_in_set}
-use Rattle.protobuf_parse_descriptor_set.proofs.Places.{indices_apart, marked_last}
+use Rattle.protobuf_parse_descriptor_set.proofs.Indices.{is_permutation, moved_in_set}
+use Rattle.protobuf_parse_descriptor_set.proofs.Indices.{indices_apart, marked_last}
 use Rattle.protobuf_parse_descriptor_set.proofs.laws.oneofs_are_moved.Goals as goal
 
 -- a mark for each oneof
@@ -16,7 +16,7 @@ as_many m = length-map-range_with_len (is_synthetic m.field) 0 (length m.oneof_d
 stays : (m : MessageParts) (index : Option ℤ)
     → oneof_at (oneofs_in_set m) (index_in_set (synthetic m) index) ≡ oneof_at m.oneof_decl index
 stays m None = refl
-stays m (Some (pos i)) = placed_in_set (synthetic m) m.oneof_decl i (as_many m)
+stays m (Some (pos i)) = moved_in_set (synthetic m) m.oneof_decl i (as_many m)
 stays m (Some (negsuc i)) = refl
 
 pub returns : goal.returns

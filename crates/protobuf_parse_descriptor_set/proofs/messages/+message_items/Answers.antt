@@ -16,7 +16,7 @@ use Rattle.protobuf_parse_descriptor_set.proofs.Inside.{message_items_is}
 use Rattle.protobuf_parse_descriptor_set.proofs.Joining.{joined, none_yet, on_ok_then}
 use Rattle.protobuf_parse_descriptor_set.proofs.Joining.{one_more, all_of}
 use Rattle.protobuf_parse_descriptor_set.proofs.Lengths.{ended_part, within}
-use Rattle.protobuf_parse_descriptor_set.proofs.Places.{told_marks}
+use Rattle.protobuf_parse_descriptor_set.proofs.Indices.{told_marks}
 use Rattle.protobuf_parse_descriptor_set.proofs.messages.+message_items.Goals as goal
 
 -- what was found is which oneofs of the message are synthetic
@@ -59,13 +59,13 @@ put_messages-loop-message-init t c = none_yet _
 
 pub put_messages-end_message-requires : goal.put_messages-end_message-requires
 put_messages-end_message-requires t c =
-    within _ _ _ _ c.in_ok-place.ensures.place c.in_ok-put_inside.ensures
+    within _ _ _ _ c.in_ok-start.ensures.start c.in_ok-put_inside.ensures
 
 pub put_messages-loop-message-preserved : goal.put_messages-loop-message-preserved
 put_messages-loop-message-preserved t c =
     one_more (λ m. part c.args.number (message_items m)) message_view _ _ _ _ _ _
     c.loop-message-test.true c.message-item.is c.loop-message.invariant
-    (ended_part _ _ _ _ _ _ _ c.in_ok-place.ensures.begun c.in_ok-place.ensures.place
+    (ended_part _ _ _ _ _ _ _ c.in_ok-start.ensures.begun c.in_ok-start.ensures.start
     c.in_ok-put_inside.ensures c.in_ok-end_message.ensures)
 
 pub put_messages-returns : goal.put_messages-returns

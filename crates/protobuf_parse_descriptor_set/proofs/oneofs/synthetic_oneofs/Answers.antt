@@ -14,17 +14,17 @@ loop-field-preserved c =
     let before = c.loop-field.invariant in
     let next = fields_more c.args.fields.now c.loop-field.field-index f c.loop-field-test.true
     c.field-item.is in
-    let now = c.match-place_among in
+    let now = c.match-index_among in
     subst (λ fs. TellsMembers fs c.args.count now.synthetic.items now.has_members.items) (sym next)
     (elim now.branch [
       | in-Some w ↦ rw (w.synthetic-is, w.has_members-is)
           (elim w.if-field.branch [
             | then-field v ↦ optional_more _ (field_view f) _ _ _ _ _ _
-                (sym c.place_among.ensures ∙ w.in-Some.is) before v.if-field.true
+                (sym c.index_among.ensures ∙ w.in-Some.is) before v.if-field.true
                 (v.value-is ∙ ap not v.index.ensures)
             | else-field v ↦ other_more _ (field_view f) _ _ _ _ _
-                (sym c.place_among.ensures ∙ w.in-Some.is) before v.if-field.false v.value-is
+                (sym c.index_among.ensures ∙ w.in-Some.is) before v.if-field.false v.value-is
           ])
       | in-None w ↦ rw (w.synthetic-is, w.has_members-is)
-          (no_member_more _ (field_view f) _ _ _ (sym c.place_among.ensures ∙ w.in-None.is) before)
+          (no_member_more _ (field_view f) _ _ _ (sym c.index_among.ensures ∙ w.in-None.is) before)
     ])

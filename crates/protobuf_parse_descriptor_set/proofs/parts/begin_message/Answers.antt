@@ -10,7 +10,7 @@ overflow_sub-result c =
 pub returns-clause-begun : goal.returns-clause-begun
 returns-clause-begun c = begun _ _ _ c.in_ok-put_bytes.ensures
 
-pub returns-clause-place : goal.returns-clause-place
-returns-clause-place c =
+pub returns-clause-start : goal.returns-clause-start
+returns-clause-start c =
     let some = has_byte _ _ _ (begun _ _ _ c.in_ok-put_bytes.ensures) in
     omega (arith, some, c.len.ensures, c.put_bytes.new.out.ok.0)

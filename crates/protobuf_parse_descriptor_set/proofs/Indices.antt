@@ -17,7 +17,7 @@ use Rattle.std.proofs.lemmas.List.Sorted.{IsPermutation-trans, length_permutatio
 use Rattle.std.proofs.lemmas.List.Sums.{sum_by-cons}
 use Rattle.std.proofs.lemmas.Option.{slice_get-get_or, slice_get_past, slice_get_within}
 use Rattle.protobuf_parse_descriptor_set.specs.OneofOrder.{marked, unmarked, marks_before}
-use Rattle.protobuf_parse_descriptor_set.specs.OneofOrder.{others_before, new_place, place_in_set}
+use Rattle.protobuf_parse_descriptor_set.specs.OneofOrder.{others_before, new_index, moved_index}
 use Rattle.protobuf_parse_descriptor_set.specs.OneofOrder.{index_in_set}
 use Rattle.protobuf_parse_descriptor_set.specs.Told.{Tells, index_by, of_kind}
 
@@ -26,7 +26,7 @@ no_more n = omega arith
 
 -- ---- the lists that the code keeps
 
--- what tells each place is the list of it
+-- what tells each index is the list of it
 pub told_marks : (f : ℕ → Bool) (n : ℕ) (marks : List Bool) → Tells f n marks
     → marks ≡ map f (range_with_len 0 n)
 told_marks f n marks t =
@@ -36,21 +36,21 @@ told_marks f n marks t =
     ∙ sym (get_or-map-range_with_len f 0 n k k d (omega (arith, t.count))
     (no_more k)))
 
-told_place : (marks : List Bool) (places : List ℕ) → Tells (new_place marks) (length marks) places
+told_one : (marks : List Bool) (indices : List ℕ) → Tells (new_index marks) (length marks) indices
     → (i : ℕ) (b : Bool) → nat_lt i (length marks) ≡ b
-    → (if b then get_or places i 0 else i) ≡ (if b then new_place marks i else i)
-told_place marks places t i true lt = t.each i 0 (ltb-true i (length marks) lt)
-told_place marks places t i false lt = refl
+    → (if b then get_or indices i 0 else i) ≡ (if b then new_index marks i else i)
+told_one marks indices t i true lt = t.each i 0 (ltb-true i (length marks) lt)
+told_one marks indices t i false lt = refl
 
-pub told_index : (marks : List Bool) (places : List ℕ)
-    → Tells (new_place marks) (length marks) places → (index : Option ℤ)
-    → index_by places index ≡ index_in_set marks index
-told_index marks places t None = refl
-told_index marks places t (Some (pos i)) =
+pub told_index : (marks : List Bool) (indices : List ℕ)
+    → Tells (new_index marks) (length marks) indices → (index : Option ℤ)
+    → index_by indices index ≡ index_in_set marks index
+told_index marks indices t None = refl
+told_index marks indices t (Some (pos i)) =
     ap (λ (z : ℕ). Some (pos z))
-    (ap (λ n. if nat_lt i n then get_or places i 0 else i) t.count
-    ∙ told_place marks places t i (nat_lt i (length marks)) refl)
-told_index marks places t (Some (negsuc i)) = refl
+    (ap (λ n. if nat_lt i n then get_or indices i 0 else i) t.count
+    ∙ told_one marks indices t i (nat_lt i (length marks)) refl)
+told_index marks indices t (Some (negsuc i)) = refl
 
 -- ---- one kind after the other
 
@@ -240,90 +240,90 @@ others_below (false ∷ marks) (suc i) lt h =
       counted not false (take i marks),
     )
 
-placed_by : {X : Type 0} (marks : List Bool) (xs : List X) (i : ℕ) → length marks ≡ length xs
+moved_by : {X : Type 0} (marks : List Bool) (xs : List X) (i : ℕ) → length marks ≡ length xs
     → i < length marks → (b : Bool) → get_or marks i false ≡ b
     → slice_get (unmarked marks xs ++ marked marks xs)
     (if b then count_by not marks + marks_before marks i else others_before marks i)
     ≡ slice_get xs i
-placed_by marks xs i e lt true h =
+moved_by marks xs i e lt true h =
     ap (λ n. slice_get (unmarked marks xs ++ marked marks xs) (n + marks_before marks i))
     (sym (length-unmarked marks xs e))
     ∙ behind (unmarked marks xs) (marked marks xs) (marks_before marks i) ∙ marked_at marks xs i e h
-placed_by marks xs i e lt false h =
+moved_by marks xs i e lt false h =
     within (unmarked marks xs) (marked marks xs) (others_before marks i)
     (omega (arith, others_below marks i lt h, length-unmarked marks xs e))
     ∙ unmarked_at marks xs i e lt h
 
--- What stands at a place stands at its new place in the set.
-pub placed : {X : Type 0} (marks : List Bool) (xs : List X) (i : ℕ) → length marks ≡ length xs
+-- What stands at an index stands at its new index in the set.
+pub moved_to : {X : Type 0} (marks : List Bool) (xs : List X) (i : ℕ) → length marks ≡ length xs
     → i < length marks
-    → slice_get (unmarked marks xs ++ marked marks xs) (new_place marks i) ≡ slice_get xs i
-placed marks xs i e lt = placed_by marks xs i e lt (get_or marks i false) refl
+    → slice_get (unmarked marks xs ++ marked marks xs) (new_index marks i) ≡ slice_get xs i
+moved_to marks xs i e lt = moved_by marks xs i e lt (get_or marks i false) refl
 
 -- where a list ends, so does the one in another order
-placed_or_not : {X : Type 0} (marks : List Bool) (xs : List X) (i : ℕ) → length marks ≡ length xs
+moved_or_not : {X : Type 0} (marks : List Bool) (xs : List X) (i : ℕ) → length marks ≡ length xs
     → (b : Bool) → nat_lt i (length marks) ≡ b
-    → slice_get (unmarked marks xs ++ marked marks xs) (if b then new_place marks i else i)
+    → slice_get (unmarked marks xs ++ marked marks xs) (if b then new_index marks i else i)
     ≡ slice_get xs i
-placed_or_not marks xs i e true lt = placed marks xs i e (ltb-true i (length marks) lt)
-placed_or_not marks xs i e false lt =
+moved_or_not marks xs i e true lt = moved_to marks xs i e (ltb-true i (length marks) lt)
+moved_or_not marks xs i e false lt =
     let past : length xs ≤ i = omega (arith, e, ltb-false i (length marks) lt) in
     slice_get_past (unmarked marks xs ++ marked marks xs) i
     (omega (arith, past, length_permutation _ _ (is_permutation marks xs e)))
     ∙ sym (slice_get_past xs i past)
 
-pub placed_in_set : {X : Type 0} (marks : List Bool) (xs : List X) (i : ℕ)
+pub moved_in_set : {X : Type 0} (marks : List Bool) (xs : List X) (i : ℕ)
     → length marks ≡ length xs
-    → slice_get (unmarked marks xs ++ marked marks xs) (place_in_set marks i) ≡ slice_get xs i
-placed_in_set marks xs i e = placed_or_not marks xs i e (nat_lt i (length marks)) refl
+    → slice_get (unmarked marks xs ++ marked marks xs) (moved_index marks i) ≡ slice_get xs i
+moved_in_set marks xs i e = moved_or_not marks xs i e (nat_lt i (length marks)) refl
 
--- ---- no two in one place
+-- ---- no two at one index
 
--- the places themselves, in another order
-abbrev places : List Bool → List ℕ
-places marks = range_with_len 0 (length marks)
+-- the indices themselves, in another order
+abbrev indices : List Bool → List ℕ
+indices marks = range_with_len 0 (length marks)
 
-placed_itself : (marks : List Bool) (i : ℕ) → i < length marks
-    → slice_get (unmarked marks (places marks) ++ marked marks (places marks))
-    (place_in_set marks i) ≡ Some i
-placed_itself marks i lt =
-    placed_in_set marks (places marks) i (sym (length-range_with_len 0 (length marks)))
-    ∙ slice_get-get_or (places marks) i 0
+moved_itself : (marks : List Bool) (i : ℕ) → i < length marks
+    → slice_get (unmarked marks (indices marks) ++ marked marks (indices marks))
+    (moved_index marks i) ≡ Some i
+moved_itself marks i lt =
+    moved_in_set marks (indices marks) i (sym (length-range_with_len 0 (length marks)))
+    ∙ slice_get-get_or (indices marks) i 0
     (omega (arith, lt, length-range_with_len 0 (length marks)))
     ∙ ap (λ (z : ℕ). Some z) (get_or-range_with_len 0 (length marks) i 0 lt ∙ no_more i)
 
-placed_below : (marks : List Bool) (i : ℕ) → i < length marks
-    → place_in_set marks i < length marks
-placed_below marks i lt =
-    let order = unmarked marks (places marks) ++ marked marks (places marks) in
+moved_below : (marks : List Bool) (i : ℕ) → i < length marks
+    → moved_index marks i < length marks
+moved_below marks i lt =
+    let order = unmarked marks (indices marks) ++ marked marks (indices marks) in
     let same = sym (length-range_with_len 0 (length marks)) in
-    let found = slice_get_within order (place_in_set marks i) i (placed_itself marks i lt) in
-    let long = length_permutation (places marks) order (is_permutation marks (places marks) same) in
+    let found = slice_get_within order (moved_index marks i) i (moved_itself marks i lt) in
+    let long = length_permutation (indices marks) order (is_permutation marks (indices marks) same) in
     omega (arith, found, long, same)
 
-outside : (marks : List Bool) (i : ℕ) → length marks ≤ i → place_in_set marks i ≡ i
+outside : (marks : List Bool) (i : ℕ) → length marks ≤ i → moved_index marks i ≡ i
 outside marks i le =
-    ap (λ b. if b then new_place marks i else i) (le-ltb i (length marks) le)
+    ap (λ b. if b then new_index marks i else i) (le-ltb i (length marks) le)
 
--- two places are one only where they were
+-- two indices are one only where they were
 both_within : (marks : List Bool) (i j : ℕ) → i < length marks → j < length marks
-    → place_in_set marks i ≡ place_in_set marks j → i ≡ j
+    → moved_index marks i ≡ moved_index marks j → i ≡ j
 both_within marks i j below_i below_j e =
-    let found : Some i ≡ Some j = sym (placed_itself marks i below_i)
-    ∙ ap (slice_get (unmarked marks (places marks) ++ marked marks (places marks))) e
-    ∙ placed_itself marks j below_j in
+    let found : Some i ≡ Some j = sym (moved_itself marks i below_i)
+    ∙ ap (slice_get (unmarked marks (indices marks) ++ marked marks (indices marks))) e
+    ∙ moved_itself marks j below_j in
     cc
 
-places_apart : (marks : List Bool) (i j : ℕ) → place_in_set marks i ≡ place_in_set marks j → i ≡ j
-places_apart marks i j e = elim (cases_lt i (length marks)) [
+moved_apart : (marks : List Bool) (i j : ℕ) → moved_index marks i ≡ moved_index marks j → i ≡ j
+moved_apart marks i j e = elim (cases_lt i (length marks)) [
   | inl within_i ↦ elim (cases_lt j (length marks)) [
     | inl within_j ↦ both_within marks i j within_i within_j e
     | inr past_j ↦ absurd
-        (omega (arith, placed_below marks i within_i, e, outside marks j past_j, past_j))
+        (omega (arith, moved_below marks i within_i, e, outside marks j past_j, past_j))
   ]
   | inr past_i ↦ elim (cases_lt j (length marks)) [
     | inl within_j ↦ absurd
-        (omega (arith, placed_below marks j within_j, e, outside marks i past_i, past_i))
+        (omega (arith, moved_below marks j within_j, e, outside marks i past_i, past_i))
     | inr past_j ↦ sym (outside marks i past_i) ∙ e ∙ outside marks j past_j
   ]
 ]
@@ -332,8 +332,8 @@ said_apart : (marks : List Bool) (i j : ℕ)
     → index_in_set marks (Some (pos i)) ≡ index_in_set marks (Some (pos j))
     → Some (pos i) ≡ Some (pos j)
 said_apart marks i j e =
-    let same : place_in_set marks i ≡ place_in_set marks j = cc in
-    ap (λ (z : ℕ). Some (pos z)) (places_apart marks i j same)
+    let same : moved_index marks i ≡ moved_index marks j = cc in
+    ap (λ (z : ℕ). Some (pos z)) (moved_apart marks i j same)
 
 pub indices_apart : (marks : List Bool) (a b : Option ℤ)
     → index_in_set marks a ≡ index_in_set marks b → a ≡ b
@@ -349,20 +349,20 @@ indices_apart marks (Some (negsuc i)) (Some (negsuc j)) e = cc
 
 -- ---- what is marked comes last
 
-new_place_of : (marks : List Bool) (i : ℕ) (b : Bool) → i < length marks → get_or marks i false ≡ b
-    → place_in_set marks i
+new_index_of : (marks : List Bool) (i : ℕ) (b : Bool) → i < length marks → get_or marks i false ≡ b
+    → moved_index marks i
     ≡ (if b then count_by not marks + marks_before marks i else others_before marks i)
-new_place_of marks i b lt is =
-    ap (λ t. if t then new_place marks i else i) (lt-ltb i (length marks) lt)
+new_index_of marks i b lt is =
+    ap (λ t. if t then new_index marks i else i) (lt-ltb i (length marks) lt)
     ∙ ap (λ t. if t then count_by not marks + marks_before marks i else others_before marks i) is
 
 pub marked_last : (marks : List Bool) (i j : ℕ) → i < length marks → j < length marks
     → get_or marks i false ≡ false → get_or marks j false ≡ true
-    → place_in_set marks i < place_in_set marks j
+    → moved_index marks i < moved_index marks j
 marked_last marks i j below_i below_j other mark =
     omega (
       arith,
       others_below marks i below_i other,
-      new_place_of marks i false below_i other,
-      new_place_of marks j true below_j mark,
+      new_index_of marks i false below_i other,
+      new_index_of marks j true below_j mark,
     )
