@@ -34,7 +34,7 @@ pub faults_of_message : (env : Environment) (m : MessageSyntax)
 faults_of_message env m =
     rw (message_body_is m.body, faults_in_is (env_inside env m.name) m.body) refl
 
--- ---- places among oneofs
+-- ---- indices of oneofs
 
 -- the fields of some statements and of those after them, which come behind the oneofs of the former
 pub fields_from-append : (env : Environment) (index : ℕ) (xs ys : List MessageStatementSyntax)

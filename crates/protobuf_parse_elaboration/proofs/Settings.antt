@@ -23,7 +23,8 @@ use Rattle.protobuf_parse_model.specs.OptionTables.{option_names_in}
 use Rattle.protobuf_parse_model.specs.Words.{Words, words_of}
 use Rattle.protobuf_parse_model.proofs.TreeViews.{views_ident}
 use Rattle.protobuf_parse_elaboration.specs.declared.constructs.options.tables.BuiltinKind.{BuiltinKind}
-use Rattle.protobuf_parse_elaboration.specs.OptionViews.{entry_seen, kind_seen, table_seen, words_seen}
+use Rattle.protobuf_parse_elaboration.specs.OptionViews.{entry_seen, kind_seen, table_seen}
+use Rattle.protobuf_parse_elaboration.specs.OptionViews.{words_seen}
 
 last_or-append : {A : Type 0} (o : Option A) (xs ys : List A)
     → last_or o (xs ++ ys) ≡ last_or (last_or o xs) ys

@@ -12,8 +12,8 @@ use Rattle.protobuf_parse_grammar.specs.Readers.{Reader, and_left, and_right, or
 use Rattle.protobuf_parse_grammar.specs.Readers.{or_true, not_true, next-onto, seen_by-append}
 use Rattle.protobuf_parse_grammar.specs.Readers.{starts-onto, starts-next, all_apart-law}
 use Rattle.protobuf_parse_grammar.specs.Readers.{all_within-law, first-of, last-of, starts-within}
-use Rattle.protobuf_parse_grammar.specs.Readers.{begins-apart, begins-starts, local-same, end, token}
-use Rattle.protobuf_parse_grammar.specs.Readers.{read, stuck, wrong, deep}
+use Rattle.protobuf_parse_grammar.specs.Readers.{begins-apart, begins-starts, local-same, end}
+use Rattle.protobuf_parse_grammar.specs.Readers.{token, read, stuck, wrong, deep}
 
 -- ---- nothing, and one token
 

@@ -6,12 +6,13 @@ use Rattle.protobuf_parse_grammar.specs.Relations.{OneOrMore, Separated, Unless}
 use Rattle.protobuf_parse_grammar.specs.Restrictions.{Optional, Meant, Only}
 use Rattle.protobuf_parse_grammar.specs.Relations.{BeginsOtherwise, At}
 use Rattle.protobuf_parse_grammar.specs.Readers.{Rest, end, token, onto, next, Read, read, stuck}
-use Rattle.protobuf_parse_grammar.specs.Readers.{wrong, deep, bind, bind_read, bind_deep, read_parts}
-use Rattle.protobuf_parse_grammar.specs.Readers.{stuck_not_read, Lexicon, Shape, shape, LocalAt}
-use Rattle.protobuf_parse_grammar.specs.Readers.{LocalRead, Sound, seen_by, starts, starts-next}
-use Rattle.protobuf_parse_grammar.specs.Readers.{starts-onto, Begins, Reader, local-same}
-use Rattle.protobuf_parse_grammar.specs.Combinators.{give, ◌>>=◌}
-use Rattle.protobuf_parse_grammar.specs.Combinators.{◌>>◌, then_shape, either_shape, choose, many}
+use Rattle.protobuf_parse_grammar.specs.Readers.{wrong, deep, bind, bind_read, bind_deep}
+use Rattle.protobuf_parse_grammar.specs.Readers.{read_parts, stuck_not_read, Lexicon, Shape, shape}
+use Rattle.protobuf_parse_grammar.specs.Readers.{LocalAt, LocalRead, Sound, seen_by, starts}
+use Rattle.protobuf_parse_grammar.specs.Readers.{starts-next, starts-onto, Begins, Reader}
+use Rattle.protobuf_parse_grammar.specs.Readers.{local-same}
+use Rattle.protobuf_parse_grammar.specs.Combinators.{give, ◌>>=◌, ◌>>◌, then_shape, either_shape}
+use Rattle.protobuf_parse_grammar.specs.Combinators.{choose, many}
 use Rattle.protobuf_parse_grammar.specs.Readers.{seen_by-append}
 use Rattle.protobuf_parse_grammar.specs.Combinators.{many_shape, pick, pick-local-at}
 use Rattle.protobuf_parse_grammar.specs.Readers.{or_true}

@@ -5,8 +5,8 @@ use Rattle.std.proofs.Common.{◌≡◌, List, [], ◌∷◌, ◌++◌, Option, 
 use Rattle.std.proofs.Common.{ap, ◌∙◌, append_assoc}
 use Rattle.std.proofs.lemmas.List.{append-nil}
 use Rattle.protobuf_parse_grammar.specs.Relations.{somes}
-use Rattle.protobuf_parse_grammar.specs.Readers.{Rest, Read, read, stuck, wrong, deep, bind, Lexicon}
-use Rattle.protobuf_parse_grammar.specs.Readers.{Shape, Reader, starts}
+use Rattle.protobuf_parse_grammar.specs.Readers.{Rest, Read, read, stuck, wrong, deep, bind}
+use Rattle.protobuf_parse_grammar.specs.Readers.{Lexicon, Shape, Reader, starts}
 use Rattle.protobuf_parse_grammar.specs.Combinators.{run_many, many-law}
 
 -- with what the items show behind what is there

@@ -9,8 +9,8 @@ use Rattle.protobuf_parse_grammar.specs.Relations.{Separated, Unless, At, Level}
 use Rattle.protobuf_parse_grammar.specs.Restrictions.{Only, Meant}
 use Rattle.protobuf_parse_grammar.specs.Combinators as reader
 use Rattle.protobuf_parse_grammar.specs.Readers as read
-use Rattle.protobuf_parse_grammar.specs.Readers.{Rest, Read, deep, Lexicon, Shape, shape, Reader, size}
-use Rattle.protobuf_parse_grammar.specs.Readers.{seen_by}
+use Rattle.protobuf_parse_grammar.specs.Readers.{Rest, Read, deep, Lexicon, Shape, shape, Reader}
+use Rattle.protobuf_parse_grammar.specs.Readers.{size, seen_by}
 use Rattle.protobuf_parse_grammar.specs.Combinators.{then_shape, either_shape, many_shape, covers}
 use Rattle.protobuf_parse_grammar.specs.Conditions as part
 use Rattle.protobuf_parse_grammar.specs.Conditions.{optional_shape, separated_shape, unless_shape}

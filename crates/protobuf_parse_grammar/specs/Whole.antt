@@ -1,14 +1,15 @@
 -- No public clause rests on this file.
 -- What a reader of whole lists says of its relation: the one value, no other, and where none can
 -- be.
-use Rattle.std.proofs.Common.{◌≡◌, ℕ, zero, suc, ◌+◌, List, [], ◌∷◌, ◌++◌, length}
-use Rattle.std.proofs.Common.{true, false, Result, Ok, refl, sym, ap, subst, ◌∙◌, inl}
-use Rattle.std.proofs.Common.{inr, ◌⊎◌, arith, add-zero, zero-add}
+use Rattle.std.proofs.Common.{◌≡◌, ℕ, zero, suc, ◌+◌, List, [], ◌∷◌, ◌++◌, length, true, false}
+use Rattle.std.proofs.Common.{Result, Ok, refl, sym, ap, subst, ◌∙◌, inl, inr, ◌⊎◌, arith, add-zero}
+use Rattle.std.proofs.Common.{zero-add}
 use Rattle.std.proofs.Math.Nat.{add-suc}
 use Rattle.std.proofs.lemmas.List.{append_cancel_right}
-use Rattle.protobuf_parse_grammar.specs.Readers.{Rest, end, token, onto, onto-append, size, next, Read}
-use Rattle.protobuf_parse_grammar.specs.Readers.{read, stuck, wrong, deep, read_parts, Lexicon, Shape}
-use Rattle.protobuf_parse_grammar.specs.Readers.{Reader, LocalAt, LocalRead, LocalStuck, starts}
+use Rattle.protobuf_parse_grammar.specs.Readers.{Rest, end, token, onto, onto-append, size, next}
+use Rattle.protobuf_parse_grammar.specs.Readers.{Read, read, stuck, wrong, deep, read_parts}
+use Rattle.protobuf_parse_grammar.specs.Readers.{Lexicon, Shape, Reader, LocalAt, LocalRead}
+use Rattle.protobuf_parse_grammar.specs.Readers.{LocalStuck, starts}
 use Rattle.protobuf_parse_grammar.specs.Conditions.{mark_of}
 use Rattle.protobuf_parse_grammar.specs.Depth.{Near, NearAt}
 use Rattle.protobuf_parse_grammar.specs.Relations.{AtSomeDepth, StopsAt, first_mark, head}

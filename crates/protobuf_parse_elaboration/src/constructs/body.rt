@@ -128,6 +128,7 @@ fn add_normal<C: CustomOptions>(
 }
 
 /// Adds a field that is in no oneof, and behind which no message stands.
+// Inlined: 0.6 % of the instructions for scalars, with five more of this crate.
 #[inline(always)]
 #[tactic(auto, using(crate::proofs::Bodies::no_entries))]
 fn add_without_message<C: CustomOptions>(

@@ -33,6 +33,7 @@ use protobuf_parse_syntax::{Field, Group, ProtobufOption, Syntax, Type};
 use std::alloc::{AllocError, Global};
 
 /// The descriptor of a field that stands there among oneofs and extensions.
+// Inlined: 5.0 % of the instructions for scalars.
 #[inline(always)]
 pub fn field_descriptor<C: CustomOptions>(
     at: &Viewpoint<'_, '_, C>,
@@ -51,6 +52,7 @@ pub fn field_descriptor<C: CustomOptions>(
 }
 
 /// The descriptor of a field of that type.
+// Inlined: 4.6 % of the instructions for scalars.
 #[inline(always)]
 pub fn field_with<C: CustomOptions>(
     at: &Viewpoint<'_, '_, C>,
@@ -93,6 +95,7 @@ pub struct FieldSaid {
 }
 
 /// What the options of a field of that type and name say.
+// Inlined: 0.6 % of the instructions for scalars, with five more of this crate.
 #[inline(always)]
 fn field_said<C: CustomOptions>(
     at: &Viewpoint<'_, '_, C>,
@@ -121,7 +124,6 @@ fn field_said<C: CustomOptions>(
 
 /// What the options of this list say of a field of that type and name. For one alone, as most lists
 /// have, no memory is asked for.
-#[inline(never)]
 fn said_by_list<C: CustomOptions>(
     at: &Viewpoint<'_, '_, C>,
     faults: &mut Vec<ElabError>,

@@ -32,7 +32,7 @@ use protobuf_parse_model::{
 use protobuf_parse_syntax::{FieldStatement, Group, Type};
 use std::alloc::{AllocError, Global};
 
-/// The message in a place of its own.
+/// The message in memory of its own.
 pub fn boxed(alloc: Global, message: DescriptorProto) -> Result<Box<DescriptorProto>, AllocError>
     ensures { IfOk result (λ b. b.value ≡ message) }
 {

@@ -239,7 +239,7 @@ fn add_statement<C: CustomOptions>(
     body: &mut Body,
     statement: &MessageStatement,
 ) -> Result<(), AllocError>
-    requires places { length body.old.oneof_decl.items < 2 ^ 31 }
+    requires room { length body.old.oneof_decl.items < 2 ^ 31 }
     requires few { message_statement_count (message_statement_syntax statement.now) ≤ 2147483647 }
     ensures value { let env = seen_from C.customs at.now in
         let s = message_statement_syntax statement.now in

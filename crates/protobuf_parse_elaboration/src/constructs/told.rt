@@ -26,7 +26,6 @@ pub struct NamedAt<'a> {
 
 /// E1 at each of what the statements declare so whose name an earlier one has. The items are what
 /// they became, in their order.
-#[inline(always)]
 pub fn tell_names<S: Declares, T: Named>(
     alloc: Global,
     faults: &mut Vec<ElabError>,
@@ -48,7 +47,6 @@ pub fn tell_names<S: Declares, T: Named>(
 }
 
 /// E1 at each of the items whose name an earlier one has. These are their places, in their order.
-#[inline(always)]
 pub fn tell_repeated<T: Named>(
     alloc: Global,
     faults: &mut Vec<ElabError>,

@@ -35,6 +35,7 @@ pub struct ResolvedType {
 ///
 /// Told at the place: E2 or E3 where a name means no message and no enum; E4 where a map stands in
 /// a map.
+// Inlined: 2.8 % of the instructions for scalars.
 #[inline(always)]
 pub fn resolved_type<C: CustomOptions>(
     at: &Viewpoint<'_, '_, C>,

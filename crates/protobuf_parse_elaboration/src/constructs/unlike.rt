@@ -10,6 +10,7 @@ use std::alloc::{AllocError, Global};
 
 /// Whether the items have names of different hashes, so that no name stands among those before it.
 /// Names that differ seldom share a hash; where some do, this is no answer.
+// Inlined: 0.6 % of the instructions for scalars, with five more of this crate.
 #[inline(always)]
 #[tactic(auto, using(crate::proofs::Unlike::few_unlike))]
 pub fn are_unlike<T: Named>(alloc: Global, items: &[T]) -> Result<bool, AllocError>

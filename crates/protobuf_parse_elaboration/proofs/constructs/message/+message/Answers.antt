@@ -165,7 +165,7 @@ body_of-add_statement-requires g t c =
     c.statement-item.is in
     let few : message_statement_count (message_statement_syntax s)
     ≤ 2147483647 = omega (arith, counted, same, c.requires.few) in
-    let places : length c.loop-statement.body.oneof_decl.items
+    let room : length c.loop-statement.body.oneof_decl.items
     < 2147483648 =
     omega (
       arith,
@@ -174,7 +174,7 @@ body_of-add_statement-requires g t c =
       c.loop-statement.invariant.few,
       c.requires.few,
     ) in
-    λ κs l. (omega (arith, counted, same, c.decreases), (l, (places, few)))
+    λ κs l. (omega (arith, counted, same, c.decreases), (l, (room, few)))
 
 pub add_statement-add_message-requires : goal.add_statement-add_message-requires
 add_statement-add_message-requires g t c =
