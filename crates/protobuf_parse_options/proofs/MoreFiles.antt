@@ -16,17 +16,15 @@ use Rattle.protobuf_parse_model.specs.Declarations.{Scope, Declared}
 use Rattle.protobuf_parse_model.specs.Linking.{link_faults}
 use Rattle.protobuf_parse_elaboration.specs.FilesByPath.{Trees, among, trees_at}
 use Rattle.protobuf_parse_wire.specs.Declarations.{Declaration, messages_declared_in}
-use Rattle.protobuf_parse_wire.specs.Declarations.{messages_named}
-use Rattle.protobuf_parse_wire.specs.Declarations.{messages_with_name}
+use Rattle.protobuf_parse_wire.specs.Declarations.{messages_named, messages_with_name}
 use Rattle.protobuf_parse_options.specs.OptionFields.{declared_enums, fields_of_message}
-use Rattle.protobuf_parse_options.specs.OptionFields.{field_named}
-use Rattle.protobuf_parse_options.specs.OptionFields.{values_of_enum, number_of_value}
+use Rattle.protobuf_parse_options.specs.OptionFields.{field_named, values_of_enum, number_of_value}
 use Rattle.protobuf_parse_options.specs.OptionFields.{names_message}
 use Rattle.protobuf_parse_options.specs.DescriptorsByPath.{Environments, described_at}
-use Rattle.protobuf_parse_options.specs.DescriptorsByPath.{descriptors_at}
-use Rattle.protobuf_parse_options.specs.DescriptorsByPath.{HasFileScopes, HaveSameMembers}
-use Rattle.protobuf_parse_options.specs.DescriptorsByPath.{AreWithin}
-use Rattle.protobuf_parse_options.specs.MoreFiles.{KeepsLookups, option_scope_at, MoreFilesKeepMeaning}
+use Rattle.protobuf_parse_options.specs.DescriptorsByPath.{descriptors_at, HasFileScopes}
+use Rattle.protobuf_parse_options.specs.DescriptorsByPath.{HaveSameMembers, AreWithin}
+use Rattle.protobuf_parse_options.specs.MoreFiles.{KeepsLookups, option_scope_at}
+use Rattle.protobuf_parse_options.specs.MoreFiles.{MoreFilesKeepMeaning}
 use Rattle.protobuf_parse_options.proofs.DescriptorOrders.{fields-same, values-same, messages-same}
 use Rattle.protobuf_parse_options.proofs.KeptLookups.{lookups_keep_meaning}
 

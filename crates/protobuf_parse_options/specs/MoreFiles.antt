@@ -14,8 +14,7 @@ use Rattle.protobuf_parse_options.specs.OptionFields.{names_message, extension_m
 use Rattle.protobuf_parse_options.specs.CustomOptions.{denotes}
 use Rattle.protobuf_parse_options.specs.CustomFaults.{custom_statement_faults}
 use Rattle.protobuf_parse_options.specs.DescriptorsByPath.{Environments, descriptors_at}
-use Rattle.protobuf_parse_options.specs.DescriptorsByPath.{HasFileScopes}
-use Rattle.protobuf_parse_options.specs.DescriptorsByPath.{AreWithin}
+use Rattle.protobuf_parse_options.specs.DescriptorsByPath.{HasFileScopes, AreWithin}
 
 -- What a name means from the first it means from the second; from there other names may mean
 -- something too.
@@ -49,7 +48,8 @@ LookupsKeepMeaning =
 
 -- what is seen from a scope in a file that sees the files `visible`, by the descriptors of the
 -- paths
-abbrev pub option_scope_at : Trees → Environments → (paths : List Text) (visible : List FileDescriptor)
+abbrev pub option_scope_at : Trees → Environments
+    → (paths : List Text) (visible : List FileDescriptor)
     → Scope → OptionScope
 option_scope_at trees env paths visible scope = record {
   files = descriptors_at trees env paths;

@@ -43,7 +43,6 @@ fn any_custom<P: MaySetCustom>(parts: &[P]) -> bool
 impl MaySetCustom for ProtobufOption {
     ghost custom = { λ o. is_custom (view.option_syntax o) };
 
-    #[inline]
     fn has_custom(&self) -> bool {
         match &self.name {
             ProtobufOptionName::Builtin(_) => false,
@@ -55,7 +54,6 @@ impl MaySetCustom for ProtobufOption {
 impl MaySetCustom for OptionStatement {
     ghost custom = { λ s. is_custom (view.option_statement_syntax s).option };
 
-    #[inline]
     fn has_custom(&self) -> bool {
         self.option.has_custom()
     }
@@ -65,7 +63,6 @@ impl MaySetCustom for FieldStatement {
     ghost custom = { λ f. part.custom_in_field (view.field_statement_syntax f) };
 
     #[tactic(auto, using(crate::proofs::CustomParts::options_any, protobuf_parse_syntax::proofs::FieldViews::views_normal, protobuf_parse_syntax::proofs::FieldViews::views_group, protobuf_parse_model::proofs::Levels::group_body_is))]
-    #[inline]
     fn has_custom(&self) -> bool {
         match self {
             FieldStatement::Field(field) => any_custom(&field.options),

@@ -38,8 +38,8 @@ invariant_of-result c =
           (k.holds.messages name) ∙ all_parts name;
       all_fields = λ message name. ap (found_by (field_there reach name)) (k.holds.messages message)
           ∙ fields_found reach name (spots_in_files field_names spotted_messages message 0 k.files)
-          (all_told field_names messages_inside spotted_messages messages_stand message reach k.files
-          k.reached)
+          (all_told field_names messages_inside spotted_messages messages_stand message reach
+          k.files k.reached)
           ∙ ap (λ ps. field_among (fields_of_all ps) name) (all_parts message);
       all_values = λ enum_name name. ap (found_by (number_there reach name))
           (k.holds.enums enum_name)
