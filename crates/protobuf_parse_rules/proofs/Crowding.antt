@@ -1,8 +1,7 @@
 -- Keys of which none of those that share a slot stands twice.
 use Rattle.std.proofs.Common.{◌≡◌, ◌≢◌, ℕ, ◌+◌, ◌*◌, ◌≤◌, ◌<◌, ◌%◌, Bool, true, false, cond, List}
-use Rattle.std.proofs.Common.{[]}
-use Rattle.std.proofs.Common.{◌∷◌, ◌++◌, refl, sym, ap, subst, ◌∙◌, append-nil, arith, length, inl}
-use Rattle.std.proofs.Common.{inr, get_or, set, map, take, drop, length-set}
+use Rattle.std.proofs.Common.{[], ◌∷◌, ◌++◌, refl, sym, ap, subst, ◌∙◌, append-nil, arith, length}
+use Rattle.std.proofs.Common.{inl, inr, get_or, set, map, take, drop, length-set}
 use Rattle.std.proofs.Math.Dec.{eqb}
 use Rattle.std.proofs.Math.Nat.{div-lt_iff_lt-mul, mul-lt-mul_of_pos_right, mul_comm}
 use Rattle.std.specs.Prelude.{◌/◌, ◌^◌, min, nat_lt, slice_index_or}
@@ -115,7 +114,8 @@ crowds_apart spread keys counts some counted apart =
         let once = few (filter (is_crowded spread counts) keys) apart k in
         omega (arith, same, once)
     at k false lone =
-        few_of (how_many k keys) (how_many (slot_in spread counts k) (slots_of spread (length counts) keys))
+        few_of (how_many k keys) (how_many (slot_in spread counts k)
+        (slots_of spread (length counts) keys))
         (slice_index_or counts (slot_in spread counts k) 0) (by_slot (slot_in spread counts) k keys)
         (counted (slot_in spread counts k) (slot_within spread (length counts) k some))
         (least (slice_index_or counts (slot_in spread counts k) 0) lone)
@@ -158,14 +158,17 @@ counted_more spread keys counts k q is within small counted p lt =
         let here : p ≡ q = sym (eqb-true (slot_in spread counts k) p same) ∙ sym is in
         ap (λ x. get_or (set counts q (get_or counts q 0 + 1)) x 0) here
         ∙ get_or-set_same counts q (get_or counts q 0 + 1) 0 within
-        ∙ more_of (get_or counts q 0) (how_many q (map (slot_in spread counts) keys)) (counted q within) small
+        ∙ more_of (get_or counts q 0) (how_many q (map (slot_in spread counts) keys))
+        (counted q within) small
         ∙ ap (λ x. min 2 (how_many x (map (slot_in spread counts) keys) + 1)) (sym here)
         ∙ ap (λ b. min 2 (how_many p (map (slot_in spread counts) keys) + one_if b)) (sym same)
         ∙ ap (min 2) (sym (more_there (slot_in spread counts) k p keys))
     at false other =
-        let apart : p ≢ q = λ here. other_number (slot_in spread counts k) p other (sym is ∙ sym here) in
+        let apart : p ≢ q = λ here. other_number (slot_in spread counts k) p other
+        (sym is ∙ sym here) in
         get_or-set_other counts q p (get_or counts q 0 + 1) 0 apart
-        ∙ no_other_of (get_or counts p 0) (how_many p (map (slot_in spread counts) keys)) (counted p there)
+        ∙ no_other_of (get_or counts p 0) (how_many p (map (slot_in spread counts) keys))
+        (counted p there)
         ∙ ap (λ b. min 2 (how_many p (map (slot_in spread counts) keys) + one_if b)) (sym other)
         ∙ ap (min 2) (sym (more_there (slot_in spread counts) k p keys))
 
@@ -186,7 +189,8 @@ counted_enough spread keys counts k q is within large counted p lt =
         ∙ ap (λ b. min 2 (how_many p (map (slot_in spread counts) keys) + one_if b)) (sym same)
         ∙ ap (min 2) (sym (more_there (slot_in spread counts) k p keys))
     at false other =
-        no_other_of (get_or counts p 0) (how_many p (map (slot_in spread counts) keys)) (counted p lt)
+        no_other_of (get_or counts p 0) (how_many p (map (slot_in spread counts) keys))
+        (counted p lt)
         ∙ ap (λ b. min 2 (how_many p (map (slot_in spread counts) keys) + one_if b)) (sym other)
         ∙ ap (min 2) (sym (more_there (slot_in spread counts) k p keys))
 

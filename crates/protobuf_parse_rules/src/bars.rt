@@ -22,11 +22,12 @@ pub struct Bars<'a> {
     pub reserved: Cover,
     pub kept: Cover,
     pub names: Words<'a>,
-    pub ghost are_reserved: { AreEnds in_range (reserved_ranges (content_view body.now.holds)) reserved.firsts.items
-        reserved.lasts.items } by { Prim.hlevel props },
-    pub ghost are_kept: { AreEnds in_range (extension_ranges (content_view body.now.holds)) kept.firsts.items
-        kept.lasts.items } by { Prim.hlevel props },
-    pub ghost are_names: { AreTexts names.sorted.items (reserved_names (content_view body.now.holds)) } by { Prim.hlevel props },
+    pub ghost are_reserved: { AreEnds in_range (reserved_ranges (content_view body.now.holds))
+        reserved.firsts.items reserved.lasts.items } by { Prim.hlevel props },
+    pub ghost are_kept: { AreEnds in_range (extension_ranges (content_view body.now.holds))
+        kept.firsts.items kept.lasts.items } by { Prim.hlevel props },
+    pub ghost are_names: { AreTexts names.sorted.items
+        (reserved_names (content_view body.now.holds)) } by { Prim.hlevel props },
 }
 
 impl Bars<'_> {

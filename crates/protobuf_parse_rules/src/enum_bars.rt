@@ -30,9 +30,10 @@ pub struct EnumBars<'a> {
     pub each: &'a EnumDescriptorProto,
     pub numbers: Cover,
     pub names: Words<'a>,
-    pub ghost are_reserved: { AreEnds spec.in_closed_range (enum_view each.now).reserved_range numbers.firsts.items
-        numbers.lasts.items } by { Prim.hlevel props },
-    pub ghost are_names: { AreTexts names.sorted.items (enum_view each.now).reserved_name } by { Prim.hlevel props },
+    pub ghost are_reserved: { AreEnds spec.in_closed_range (enum_view each.now).reserved_range
+        numbers.firsts.items numbers.lasts.items } by { Prim.hlevel props },
+    pub ghost are_names: { AreTexts names.sorted.items
+        (enum_view each.now).reserved_name } by { Prim.hlevel props },
 }
 
 impl EnumBars<'_> {

@@ -102,6 +102,7 @@ fn check_allowed<'a>(
 
 /// Tells the same rule by rule. It stands apart so that the room of what is found is not cleared
 /// for each field.
+// Kept apart: 0.2 % of the instructions for fields of all kinds.
 #[inline(never)]
 fn check_barred<'a>(
     alloc: Global,
@@ -226,6 +227,7 @@ fn check_less_ordinary<'a>(
 }
 
 /// Tells the same rule by rule.
+// Kept apart: 0.3 % of the instructions for fields of all kinds.
 #[inline(never)]
 fn check_unusual<'a>(
     alloc: Global,

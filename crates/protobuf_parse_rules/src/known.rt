@@ -47,7 +47,8 @@ pub struct KnownEnum<'a> {
     pub proto3: bool,
     pub each: &'a EnumDescriptorProto,
     pub values: Words<'a>,
-    pub ghost are_values: { AreTexts values.sorted.items (value_names (enum_view each.now)) } by { Prim.hlevel props },
+    pub ghost are_values: { AreTexts values.sorted.items
+        (value_names (enum_view each.now)) } by { Prim.hlevel props },
 }
 
 /// The message of that name in that file.

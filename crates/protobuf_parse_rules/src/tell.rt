@@ -29,6 +29,7 @@ pub fn tell_each(
 }
 
 /// Tells what was found, if anything was.
+// Inlined: 0.3 % of the instructions for fields of all kinds.
 #[inline(always)]
 pub fn tell(
     alloc: Global,

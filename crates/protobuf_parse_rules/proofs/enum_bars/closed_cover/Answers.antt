@@ -28,6 +28,7 @@ of-requires c =
 pub returns : goal.returns
 returns c =
     let before : List Range = map enum_range_view (take c.reserved.range-index c.args.ranges.now) in
-    subst (λ (rs : List Range). AreEnds in_closed_range rs c.of.result.firsts.items c.of.result.lasts.items)
+    subst (λ (rs : List Range). AreEnds in_closed_range rs c.of.result.firsts.items
+    c.of.result.lasts.items)
     (mapped_all enum_range_view c.args.ranges.now c.reserved.range-index c.reserved-test.false)
     (c.of.ensures in_closed_range before c.reserved.invariant)

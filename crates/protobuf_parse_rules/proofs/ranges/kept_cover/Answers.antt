@@ -29,6 +29,7 @@ pub returns : goal.returns
 returns c =
     let before : List Range = map extension_range_view
     (take c.kept.range-index c.args.ranges.now) in
-    subst (λ (rs : List Range). AreEnds in_range rs c.of.result.firsts.items c.of.result.lasts.items)
+    subst (λ (rs : List Range). AreEnds in_range rs c.of.result.firsts.items
+    c.of.result.lasts.items)
     (mapped_all extension_range_view c.args.ranges.now c.kept.range-index c.kept-test.false)
     (c.of.ensures in_range before c.kept.invariant)
