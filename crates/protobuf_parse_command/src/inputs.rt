@@ -71,8 +71,8 @@ fn named<R: Files>(
         return Ok(None);
     };
     for include in includes {
-        let place = format!(in alloc; "{include}/{file}")?;
-        if !include.is_empty() && matches!(fs::exists(rt, &place), Ok(true)) {
+        let candidate = format!(in alloc; "{include}/{file}")?;
+        if !include.is_empty() && matches!(fs::exists(rt, &candidate), Ok(true)) {
             return Ok(Some(path.to_proto_path_buf(alloc)?));
         }
     }
