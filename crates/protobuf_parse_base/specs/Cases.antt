@@ -42,8 +42,10 @@ has_underscore cs = list_any (λ c. c == char.underscore) cs
 abbrev pub camel_case_text : List ℕ → List ℕ
 camel_case_text name = encode_utf8_all (camel_case_of (chars name))
 
+-- the JSON name of a name
 abbrev pub json_name_text : List ℕ → List ℕ
 json_name_text name = encode_utf8_all (json_name_of (chars name))
 
+-- a name in snake case
 abbrev pub snake_case_text : List ℕ → List ℕ
 snake_case_text name = encode_utf8_all (snake_case_of (chars name))

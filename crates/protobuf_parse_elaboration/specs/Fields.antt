@@ -46,6 +46,8 @@ pub record FieldTypeOf : Type 0 where
   pub kind : FieldType
   pub name : Option Text
 
+-- a type by what its name means; nothing comes of a name that means nothing, since a fault
+-- stands there
 abbrev pub type_of_meaning : Option DeclaredType → FieldTypeOf
 type_of_meaning None = record { kind = kind.Message; name = None }
 type_of_meaning (Some d) = record { kind = kind_of_type d.what; name = Some d.name }
@@ -63,6 +65,7 @@ inner_type_faults env name (scalar s) = []
 inner_type_faults env name (named n) = type_missing env n
 inner_type_faults env name (map_of key value) = fault DanglingTypeName name
 
+-- what is wrong in the type of the field of that name
 abbrev pub type_faults : Environment → Text → TypeSyntax → List Wrong
 type_faults env name (scalar s) = []
 type_faults env name (named n) = type_missing env n
@@ -71,6 +74,7 @@ type_faults env name (map_of key value) =
 
 -- ---- labels
 
+-- the label that a descriptor says
 abbrev pub label_of : Option Label → TypeSyntax → Label
 label_of label (map_of key value) = Repeated
 label_of label (scalar s) = unwrap_or label Optional
@@ -84,6 +88,7 @@ says_optional _ _ = false
 
 -- ---- defaults and JSON names
 
+-- whether an option is the built-in one of that name
 abbrev pub is_named : Text → OptionNameSyntax → Bool
 is_named name (builtin n) = bytes_eq n name
 is_named name (custom parts) = false
@@ -101,6 +106,7 @@ abbrev pub in_option : (ConstantSyntax → List Wrong) → Option OptionSyntax �
 in_option wrongs None = []
 in_option wrongs (Some o) = placed o.place (wrongs o.value)
 
+-- nothing comes of a string that says nothing, since a fault stands there
 abbrev pub text_or_empty : Option Text → Text
 text_or_empty text = unwrap_or text []
 
@@ -111,6 +117,7 @@ default_text kind.String (string pieces) = text_or_empty (text_of pieces)
 default_text kind.Bytes (string pieces) = escaped_bytes (text_or_empty (decode pieces))
 default_text _ value = format value
 
+-- the default of a field of that kind, if its options set one
 abbrev pub default_of : FieldType → List OptionSyntax → Option Text
 default_of type_ os = option_map (default_text type_) (first_value (codes "default") os)
 
@@ -124,18 +131,22 @@ default_value_faults kind.String name _ = fault DefaultValueIsNotStringLiteral n
 default_value_faults kind.Bytes name _ = fault DefaultValueIsNotStringLiteral name
 default_value_faults _ name _ = []
 
+-- what is wrong in the default of the field of that name
 abbrev pub default_faults : FieldType → Text → List OptionSyntax → List Fault
 default_faults type_ name os =
     in_option (default_value_faults type_ name) (first_named (codes "default") os)
 
+-- what a value of `json_name` says
 abbrev pub json_value_said : ConstantSyntax → Text
 json_value_said (string pieces) = text_or_empty (text_of pieces)
 json_value_said _ = []
 
+-- the JSON name of a field of that name, where it is set and where it isn't
 abbrev pub json_name_said : Text → Option ConstantSyntax → Text
 json_name_said name (Some value) = json_value_said value
 json_name_said name None = json_name_text name
 
+-- the JSON name of a field of that name with these options
 abbrev pub field_json_name : Text → List OptionSyntax → Text
 field_json_name name os = json_name_said name (first_value (codes "json_name") os)
 
@@ -144,6 +155,7 @@ abbrev pub json_value_faults : ConstantSyntax → List Wrong
 json_value_faults (string pieces) = string_faults (codes "json_name") (text_of pieces)
 json_value_faults _ = fault WrongOptionType (codes "json_name")
 
+-- what is wrong in the JSON name
 abbrev pub json_name_faults : List OptionSyntax → List Fault
 json_name_faults os = in_option json_value_faults (first_named (codes "json_name") os)
 
@@ -157,6 +169,7 @@ field_option_faults value (builtin name) =
     else builtin_faults field_table name value)
 field_option_faults value (custom parts) = []
 
+-- what is wrong in the built-in options
 abbrev pub field_options_faults : List OptionSyntax → List Fault
 field_options_faults os =
     flat_map (λ (o : OptionSyntax). placed o.place (field_option_faults o.value o.name)) os
@@ -195,6 +208,7 @@ field_with env owner f type_ = record {
   options = field_options (customs_bytes env of.Field f.options) f.options;
 }
 
+-- the descriptor of a field that is no group
 abbrev pub field_of : Environment → FieldOwner → FieldSyntax → FieldDescriptor
 field_of env owner f = field_with env owner f (type_of env f.name f.type_)
 
@@ -214,17 +228,20 @@ group_field env owner label name number = record {
   options = None;
 }
 
+-- that of a field or a group
 abbrev pub field_statement_of : Environment → FieldOwner → FieldStatementSyntax → FieldDescriptor
 field_statement_of env owner (field f) = field_of env owner f
 field_statement_of env owner (group at label name number fields) =
     group_field env owner label name number
 
+-- what is wrong in a field that is no group, wherever it stands
 abbrev pub field_faults : Environment → FieldSyntax → List Fault
 field_faults env f = placed f.place (type_faults env f.name f.type_)
     ++ faults_of_options env (type_of env f.name f.type_).kind f.name f.options
 
 -- ---- groups, and where maps and groups may not stand
 
+-- the descriptors of a group's fields
 abbrev pub fields_of_group : Environment → List FieldStatementSyntax → List FieldDescriptor
 fields_of_group env fields = map (field_statement_of env of_message) fields
 

@@ -33,10 +33,12 @@ use Rattle.protobuf_parse_elaboration.specs.Services.{service_of, service_faults
 
 -- ---- the statements of a file
 
+-- the option that the statement sets, if it sets one
 abbrev pub options_in_file : StatementSyntax → List OptionSyntax
 options_in_file (file_option o) = o.option ∷ []
 options_in_file _ = []
 
+-- the options of a file, in source order
 abbrev pub options_of_statements : List StatementSyntax → List OptionSyntax
 options_of_statements ss = flat_map options_in_file ss
 
@@ -64,18 +66,22 @@ file_messages_of env (file_message m) = nested_of env (nested_message m)
 file_messages_of env (file_extend e) = nested_of env (message_extend e)
 file_messages_of env _ = []
 
+-- the extensions of a statement
 abbrev pub file_extensions_of : Environment → StatementSyntax → List FieldDescriptor
 file_extensions_of env (file_extend e) = extend_fields env e
 file_extensions_of env _ = []
 
+-- its enum
 abbrev pub file_enums_of : Environment → StatementSyntax → List EnumDescriptor
 file_enums_of env (file_enum e) = enum_of env e ∷ []
 file_enums_of env _ = []
 
+-- its service
 abbrev pub services_of : Environment → StatementSyntax → List ServiceDescriptor
 services_of env (file_service s) = service_of env s ∷ []
 services_of env _ = []
 
+-- the language as descriptors say it
 abbrev pub syntax_text : Syntax → Text
 syntax_text Proto2 = codes "proto2"
 syntax_text Proto3 = codes "proto3"
@@ -99,6 +105,7 @@ file_of env path t = record {
 
 -- ---- faults
 
+-- of a statement of a file; a message has those that it has inside another
 abbrev pub file_faults_of : Environment → StatementSyntax → List Fault
 file_faults_of env (file_message m) = statement_faults env (nested_message m)
 file_faults_of env (file_enum e) = enum_faults env e
@@ -112,14 +119,17 @@ file_messages_named (file_message m) = messages_named (nested_message m)
 file_messages_named (file_extend e) = messages_named (message_extend e)
 file_messages_named _ = []
 
+-- its enum, as a declaration
 abbrev pub file_enums_named : StatementSyntax → List NamedAt
 file_enums_named (file_enum e) = enums_named (message_enum e)
 file_enums_named _ = []
 
+-- its extensions, as declarations
 abbrev pub file_extensions_named : StatementSyntax → List NamedAt
 file_extensions_named (file_extend e) = extensions_named (message_extend e)
 file_extensions_named _ = []
 
+-- its service, as a declaration
 abbrev pub services_named : StatementSyntax → List NamedAt
 services_named (file_service s) = record { place = s.place; name = s.name } ∷ []
 services_named _ = []

@@ -9,6 +9,7 @@ use Rattle.protobuf_parse_model.specs.Descriptors.{Text}
 abbrev pub Trees : Type 0
 Trees = Text → Option FileSyntax
 
+-- whether the path is one of these
 abbrev pub among : Text → List Text → Bool
 among path paths = list_any (λ x. bytes_eq path x) paths
 

@@ -83,20 +83,24 @@ entry_field name number type_ = record {
   options = None;
 }
 
+-- the message of a map's entries, by the name of the field and the types of key and value
 abbrev pub entry_message : Text → FieldTypeOf → FieldTypeOf → MessageDescriptor
 entry_message name key value =
     message_with (entry_name name)
     (entry_field (codes "key") (pos 1) key ∷ entry_field (codes "value") (pos 2) value ∷ [])
     entry_options
 
+-- the same by the types as they are written
 abbrev pub entry_of : Environment → Text → TypeSyntax → TypeSyntax → MessageDescriptor
 entry_of env name key value = entry_message name (type_of env name key) (type_of env name value)
 
+-- the message of the entries, where the field of that name and type is a map
 abbrev pub entries_of : Environment → Text → TypeSyntax → List MessageDescriptor
 entries_of env name (map_of key value) = entry_of env name key value ∷ []
 entries_of env name (scalar s) = []
 entries_of env name (named n) = []
 
+-- the message of a group
 abbrev pub group_message : Environment → Text → List FieldStatementSyntax → MessageDescriptor
 group_message env name fields = message_with name (fields_of_group env fields) None
 
@@ -108,24 +112,28 @@ messages_behind env (group at label name number fields) =
 
 -- ---- oneofs
 
--- in proto3 a field with the label `optional` has a oneof of its own, with an underscore before the
--- field's name
+-- the label of a field or a group, as it is written
 abbrev pub statement_label : FieldStatementSyntax → Option Label
 statement_label (field f) = f.label
 statement_label (group at label name number fields) = label
 
+-- in proto3 a field with the label `optional` has a oneof of its own
 abbrev pub has_own_oneof : Environment → FieldStatementSyntax → Bool
 has_own_oneof env f = says_optional env.syntax (statement_label f)
 
+-- with an underscore before the field's name
 abbrev pub own_oneof_of : Text → OneofDescriptor
 own_oneof_of name = record { name = codes "_" ++ name; options = None }
 
+-- the oneof that the field is alone in
 abbrev pub own_oneof : FieldStatementSyntax → OneofDescriptor
 own_oneof f = own_oneof_of (field_statement_name f)
 
+-- the options of a oneof, in source order
 abbrev pub options_in_oneof : OneofSyntax → List OptionSyntax
 options_in_oneof o = flat_map statements.oneof_statement_options o.body
 
+-- the descriptor of a oneof
 abbrev pub oneof_of : Environment → OneofSyntax → OneofDescriptor
 oneof_of env o =
     record {
@@ -134,6 +142,7 @@ oneof_of env o =
           oneof_options (customs_bytes env of.Oneof (options_in_oneof o)) (options_in_oneof o);
     }
 
+-- the oneofs of a statement: the one that it declares, or that of its field
 abbrev pub oneofs_of : Environment → MessageStatementSyntax → List OneofDescriptor
 oneofs_of env (message_oneof o) = oneof_of env o ∷ []
 oneofs_of env (message_field f) = if has_own_oneof env f then own_oneof f ∷ [] else []
@@ -153,6 +162,7 @@ fields_of env index (message_oneof o) =
     map (field_statement_of env (at_oneof index)) (flat_map oneof_fields o.body)
 fields_of env index _ = []
 
+-- the fields of these statements, before which so many oneofs stand
 abbrev pub fields_from : Environment → ℕ → List MessageStatementSyntax → List FieldDescriptor
 fields_from env index [] = []
 fields_from env index (s ∷ ss) = fields_of env index s
@@ -160,9 +170,11 @@ fields_from env index (s ∷ ss) = fields_of env index s
 
 -- ---- extensions
 
+-- a field that extends the message of that name
 abbrev pub extending : Environment → Text → FieldOwner
 extending env extendee = record { extendee = type_full_name env extendee; oneof_index = None }
 
+-- the extensions of an `extend`
 abbrev pub extend_fields : Environment → ExtendSyntax → List FieldDescriptor
 extend_fields env e = map (field_statement_of env (extending env e.extendee)) e.fields
 
@@ -171,20 +183,24 @@ abbrev pub extendee_faults : Environment → Text → List FieldStatementSyntax 
 extendee_faults env extendee [] = []
 extendee_faults env extendee (f ∷ fs) = type_missing env extendee
 
+-- what is wrong in an `extend`
 abbrev pub extend_faults : Environment → ExtendSyntax → List Fault
 extend_faults env e = placed e.place (extendee_faults env e.extendee e.fields)
     ++ flat_map (extension_faults env) e.fields
 
+-- the extensions of a statement
 abbrev pub extended_of : Environment → MessageStatementSyntax → List FieldDescriptor
 extended_of env (message_extend e) = extend_fields env e
 extended_of env _ = []
 
 -- ---- ranges, names, enums and options
 
+-- the ranges that a statement keeps for extensions
 abbrev pub extension_ranges : MessageStatementSyntax → List RangeSyntax
 extension_ranges (message_extensions e) = e.ranges
 extension_ranges _ = []
 
+-- what it reserves
 abbrev pub reserves : MessageStatementSyntax → List ReservedSyntax
 reserves (message_reserved r) = r.reserved ∷ []
 reserves _ = []
@@ -202,20 +218,24 @@ exclusive r =
 abbrev pub ranges_faults : Text → List RangeSyntax → List Wrong
 ranges_faults name rs = fault_when (list_any is_endless rs) RangeEndOverflow name
 
+-- what is wrong in the ranges of a statement of the message of that name
 abbrev pub range_faults : Text → MessageStatementSyntax → List Fault
 range_faults name (message_extensions e) = placed e.place (ranges_faults name e.ranges)
 range_faults name (message_reserved r) =
     placed r.place (ranges_faults name (ranges_reserved r.reserved))
 range_faults name _ = []
 
+-- the enum of a statement
 abbrev pub enums_of : Environment → MessageStatementSyntax → List EnumDescriptor
 enums_of env (message_enum e) = enum_of env e ∷ []
 enums_of env _ = []
 
+-- the option that it sets
 abbrev pub options_in_message : MessageStatementSyntax → List OptionSyntax
 options_in_message (message_option o) = o.option ∷ []
 options_in_message _ = []
 
+-- the options of a message, in source order
 abbrev pub options_of_body : List MessageStatementSyntax → List OptionSyntax
 options_of_body body = flat_map options_in_message body
 
@@ -249,14 +269,14 @@ abbrev mutual
   nested_of env (message_extend e) = flat_map (messages_behind env) (flat_map groups e.fields)
   nested_of env _ = []
 
+  -- those of all statements of a body
   pub nested_in : Environment → MessageStatementList → List MessageDescriptor
   nested_in env no_statements = []
   nested_in env (more_statements s ss) = nested_of env s ++ nested_in env ss
 
--- ---- names
-
 -- ---- what the statements of a body declare, as declarations
 
+-- its fields
 abbrev pub fields_named : MessageStatementSyntax → List NamedAt
 fields_named (message_field f) = field_named f ∷ []
 fields_named (message_oneof o) = map field_named (flat_map oneof_fields o.body)
@@ -267,16 +287,19 @@ abbrev pub own_oneof_named : FieldStatementSyntax → NamedAt
 own_oneof_named f =
     record { place = (field_named f).place; name = codes "_" ++ field_statement_name f }
 
+-- its oneofs
 abbrev pub oneofs_named : Syntax → MessageStatementSyntax → List NamedAt
 oneofs_named syntax (message_oneof o) = record { place = o.place; name = o.name } ∷ []
 oneofs_named syntax (message_field f) =
     if says_optional syntax (statement_label f) then own_oneof_named f ∷ [] else []
 oneofs_named syntax _ = []
 
+-- its extensions
 abbrev pub extensions_named : MessageStatementSyntax → List NamedAt
 extensions_named (message_extend e) = map field_named e.fields
 extensions_named _ = []
 
+-- its enum
 abbrev pub enums_named : MessageStatementSyntax → List NamedAt
 enums_named (message_enum e) = record { place = e.place; name = e.name } ∷ []
 enums_named _ = []
@@ -288,10 +311,12 @@ entries_named place name (map_of key value) =
 entries_named place name (scalar s) = []
 entries_named place name (named n) = []
 
+-- the message behind a map or a group
 abbrev pub behind_named : FieldStatementSyntax → List NamedAt
 behind_named (field f) = entries_named f.place f.name f.type_
 behind_named (group at label name number fields) = record { place = at; name = name } ∷ []
 
+-- its messages, those behind maps and groups among them
 abbrev pub messages_named : MessageStatementSyntax → List NamedAt
 messages_named (message_message at name body) = record { place = at; name = name } ∷ []
 messages_named (message_field f) = behind_named f
@@ -319,6 +344,7 @@ rest_faults env name body = flat_map (range_faults name) body
 abbrev pub whole_faults : Environment → Text → List MessageStatementSyntax → List Fault
 whole_faults env name body = body_duplicates env.syntax body ++ rest_faults env name body
 
+-- of a oneof
 abbrev pub oneof_faults : Environment → OneofSyntax → List Fault
 oneof_faults env o =
     flat_map (field_statement_faults env) (flat_map oneof_fields o.body)
@@ -335,6 +361,7 @@ abbrev mutual
   statement_faults env (message_enum e) = enum_faults env e
   statement_faults env _ = []
 
+  -- of all statements of a body
   pub faults_in : Environment → MessageStatementList → List Fault
   faults_in env no_statements = []
   faults_in env (more_statements s ss) = statement_faults env s ++ faults_in env ss

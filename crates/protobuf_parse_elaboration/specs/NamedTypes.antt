@@ -27,6 +27,7 @@ abbrev mutual
   pub down_from : (MessageParts → List FieldDescriptor) → MessageDescriptor → List FieldDescriptor
   down_from list (a_message parts inside) = list parts ++ down_from_all list inside
 
+  -- the same of messages that stand side by side
   pub down_from_all : (MessageParts → List FieldDescriptor) → MessageDescriptors
       → List FieldDescriptor
   down_from_all list no_messages = []
@@ -36,6 +37,7 @@ abbrev mutual
 abbrev pub fields_in : FileDescriptor → List FieldDescriptor
 fields_in f = flat_map (down_from (λ (m : MessageParts). m.field)) f.message_type
 
+-- the extensions of a file, those that its messages declare among them
 abbrev pub extended_in : FileDescriptor → List FieldDescriptor
 extended_in f = flat_map (down_from (λ (m : MessageParts). m.extension)) f.message_type
     ++ f.extension
@@ -46,12 +48,15 @@ extended_in f = flat_map (down_from (λ (m : MessageParts). m.extension)) f.mess
 abbrev pub names_of_field : FieldDescriptor → List Text
 names_of_field f = option_to_list f.type_name ++ option_to_list f.extendee
 
+-- of what the method takes, and of what it returns
 abbrev pub names_of_method : MethodDescriptor → List Text
 names_of_method m = m.input_type ∷ m.output_type ∷ []
 
+-- of all its methods
 abbrev pub names_of_service : ServiceDescriptor → List Text
 names_of_service s = flat_map names_of_method s.method
 
+-- all that a file's descriptor says
 abbrev pub type_names_in : FileDescriptor → List Text
 type_names_in f = flat_map names_of_field (fields_in f) ++ flat_map names_of_field (extended_in f)
     ++ flat_map names_of_service f.service
@@ -70,10 +75,12 @@ has_name _ = false
 abbrev pub names_declared : List FileSyntax → List Text
 names_declared files = map (λ (d : DeclaredType). d.name) (types_of_files files)
 
+-- the name, where it is that of a message
 abbrev pub if_message : MessageOrEnum → Text → List Text
 if_message declarations.a_message name = name ∷ []
 if_message declarations.an_enum name = []
 
+-- the name of a declaration, where it is one of a message
 abbrev pub declared_message_name : DeclaredType → List Text
 declared_message_name d = if_message d.what d.name
 

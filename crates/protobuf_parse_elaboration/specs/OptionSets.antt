@@ -22,6 +22,7 @@ use Rattle.protobuf_parse_elaboration.specs.Services.{options_of_service}
 use Rattle.protobuf_parse_elaboration.specs.Messages.{options_in_oneof, options_of_body}
 use Rattle.protobuf_parse_elaboration.specs.FileDescriptor.{options_of_statements}
 
+-- the options of one construct, as they are written
 pub record OptionSet : Type 0 where
   pub construct : Construct
   -- its full name; a value's has that of its enum before it, and a file has none
@@ -29,6 +30,7 @@ pub record OptionSet : Type 0 where
   pub scope : Scope
   pub statements : List OptionSyntax
 
+-- such options
 abbrev pub a_set : Construct → Text → Scope → List OptionSyntax → OptionSet
 a_set construct name scope statements =
     record { construct = construct; name = name; scope = scope; statements = statements }
@@ -40,15 +42,18 @@ sets_in_group scope within (field f) =
     a_set of.Field (full_name within f.name) scope f.options ∷ []
 sets_in_group scope within (group place label name number fields) = []
 
+-- of a field, or of the fields of a group
 abbrev pub field_sets : Scope → FieldStatementSyntax → List OptionSet
 field_sets scope (field f) = a_set of.Field (full_name scope f.name) scope f.options ∷ []
 field_sets scope (group place label name number fields) =
     flat_map (sets_in_group scope (inside scope name)) (group_body fields)
 
+-- of a oneof and of its fields
 abbrev pub oneof_sets : Scope → OneofSyntax → List OptionSet
 oneof_sets scope o = a_set of.Oneof (full_name scope o.name) scope (options_in_oneof o)
     ∷ flat_map (field_sets scope) (flat_map oneof_fields o.body)
 
+-- of the extensions of an `extend`
 abbrev pub extend_sets : Scope → ExtendSyntax → List OptionSet
 extend_sets scope e = flat_map (field_sets scope) e.fields
 
@@ -56,6 +61,7 @@ extend_sets scope e = flat_map (field_sets scope) e.fields
 abbrev pub value_set : Scope → (within : Scope) → EnumValueSyntax → OptionSet
 value_set scope within v = a_set of.EnumValue (full_name within v.name) scope v.options
 
+-- of an enum and of its values
 abbrev pub enum_sets : Scope → EnumSyntax → List OptionSet
 enum_sets scope e = a_set of.Enum (full_name scope e.name) scope (options_of_enum e)
     ∷ map (value_set scope (inside scope e.name)) (flat_map enum_values e.body)
@@ -72,6 +78,7 @@ abbrev mutual
   sets_of scope (message_enum e) = enum_sets scope e
   sets_of scope _ = []
 
+  -- of all statements of a body
   pub sets_in : Scope → MessageStatementList → List OptionSet
   sets_in scope no_statements = []
   sets_in scope (more_statements s ss) = sets_of scope s ++ sets_in scope ss
@@ -80,6 +87,7 @@ abbrev mutual
 abbrev pub method_set : Scope → (within : Scope) → MethodSyntax → OptionSet
 method_set scope within m = a_set of.Method (full_name within m.name) scope (options_of_method m)
 
+-- of a service and of its methods
 abbrev pub service_sets : Scope → ServiceSyntax → List OptionSet
 service_sets scope s = a_set of.Service (full_name scope s.name) scope (options_of_service s)
     ∷ map (method_set scope (inside scope s.name)) (flat_map methods_in s.body)
@@ -92,6 +100,7 @@ statement_sets scope (file_extend e) = extend_sets scope e
 statement_sets scope (file_service s) = service_sets scope s
 statement_sets scope _ = []
 
+-- those of a whole file, the file's own first
 abbrev pub option_sets : FileSyntax → List OptionSet
 option_sets t = a_set of.File [] (file_scope t) (options_of_statements t.statements)
     ∷ flat_map (statement_sets (file_scope t)) t.statements

@@ -4,6 +4,7 @@
 use Rattle.std.specs.Prelude.{◌≡◌, ℕ, zero, suc, List, [], ◌∷◌, ◌++◌, Option, Some, None, Bool}
 use Rattle.std.specs.Prelude.{false, ◌⊎◌, ◌||◌}
 
+-- which tokens say which values
 abbrev pub Rel : Type 0 → Type 0 → Type 1
 Rel Tok A = List Tok → A → Type 0
 
@@ -35,13 +36,16 @@ pub record Then {Tok A B : Type 0} (R : List Tok → A → Type 0) (S : A → Li
   pub parts : ts ≡ front ++ back
 
 infixl 10 ◌>>=◌
+-- a line `value ← R` of a do-block: the rest may depend on the value
 abbrev pub ◌>>=◌ : {Tok A B : Type 0} → Rel Tok A → (A → Rel Tok B) → Rel Tok B
 R >>= S = Then R S
 
 infixl 10 ◌>>◌
+-- a line `R` of a do-block, whose value doesn't count
 abbrev pub ◌>>◌ : {Tok A B : Type 0} → Rel Tok A → Rel Tok B → Rel Tok B
 R >> S = Then R (λ a. S)
 
+-- tokens of the one or of the other
 abbrev pub Either : {Tok A : Type 0} → Rel Tok A → Rel Tok A → Rel Tok A
 Either R S ts a = R ts a ⊎ S ts a
 

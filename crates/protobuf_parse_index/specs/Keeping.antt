@@ -7,6 +7,7 @@ use Rattle.protobuf_parse_index.specs.Kept.{own_fields, own_values, value_at}
 use Rattle.protobuf_parse_index.specs.Walk.{all_enums, all_extensions, all_messages}
 use Rattle.protobuf_parse_index.specs.declared.index.Index.TheInside.{Inside}
 
+-- Each part of the index has what the files declare.
 pub record Indexes (files : List FileDescriptor) (i : Inside) : Type 0 where
   pub walk : Walks files i.declared
   pub messages : HasPositions i.messages_by_name (all_messages files)
@@ -16,8 +17,10 @@ pub record Indexes (files : List FileDescriptor) (i : Inside) : Type 0 where
   pub values : map value_at i.values.items ≡ map own_values (all_enums files)
   pub extended : HasExtensions i.extensions_by_number (all_extensions files)
 
+-- the descriptors that an index was made of
 abbrev pub files_seen : Inside → List FileDescriptorProto
 files_seen i = i.files.now
 
+-- the index says what these files declare
 abbrev pub IsIndex : Inside → Type 0
 IsIndex i = Indexes (map file_view i.files.now) i

@@ -12,15 +12,19 @@ use Rattle.protobuf_parse_index.specs.Walk.{Standing, all_enums, all_extensions,
 
 -- ---- by full names
 
+-- the first that has the full name
 abbrev pub named : {X : Type 0} → (name : Text) → List (Standing X) → Option (Standing X)
 named {X} name xs = find (λ (x : Standing X). bytes_eq name x.name) xs
 
+-- the message of that full name
 abbrev pub message_named : List FileDescriptor → Text → Option (Standing MessageDescriptor)
 message_named files name = named name (all_messages files)
 
+-- the enum of that full name
 abbrev pub enum_named : List FileDescriptor → Text → Option (Standing EnumDescriptor)
 enum_named files name = named name (all_enums files)
 
+-- the extension of that full name
 abbrev pub extension_named : List FileDescriptor → Text → Option (Standing FieldDescriptor)
 extension_named files name = named name (all_extensions files)
 
@@ -33,6 +37,7 @@ extension_numbered files extendee n =
     find (λ (e : Standing FieldDescriptor). extends extendee e.what && int_eq n e.what.number)
     (all_extensions files)
 
+-- the first of the fields that has the number
 abbrev pub field_with : ℤ → List FieldDescriptor → Option FieldDescriptor
 field_with n fields = find (λ (f : FieldDescriptor). int_eq n f.number) fields
 
@@ -48,6 +53,7 @@ field_numbered files of n =
     option_or (own_field files of n)
     (option_map (λ (e : Standing FieldDescriptor). e.what) (extension_numbered files of n))
 
+-- the first of the values that has the number
 abbrev pub value_with : ℤ → List EnumValueDescriptor → Option EnumValueDescriptor
 value_with n values = find (λ (v : EnumValueDescriptor). int_eq n v.number) values
 
@@ -57,6 +63,7 @@ own_value files of n =
     option_and_then (λ (e : Standing EnumDescriptor). value_with n e.what.value)
     (enum_named files of)
 
+-- the name of that value
 abbrev pub value_name : List FileDescriptor → (of : Text) → ℤ → Option Text
 value_name files of n =
     option_map (λ (v : EnumValueDescriptor). v.name) (own_value files of n)

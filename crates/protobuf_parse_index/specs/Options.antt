@@ -19,6 +19,7 @@ without_dot (c ∷ cs) = if c == char.dot then cs else c ∷ cs
 
 -- ---- names in options
 
+-- an extension's full name in parentheses, without its first dot
 abbrev pub extension_name : Option (Standing FieldDescriptor) → Option Text
 extension_name None = None
 extension_name (Some e) = Some (codes "(" ++ without_dot e.name ++ codes ")")
@@ -41,17 +42,20 @@ pub record Named : Type 0 where
   pub field : FieldDescriptor
   pub value : ValueTree
 
+-- by its name and its field; a number that has none is told
 abbrev pub named_as : Option Text → Option FieldDescriptor → ValueTree → WireRead Named
 named_as (Some name) (Some field) value =
     Ok (record { name = name; field = field; value = value })
 named_as (Some name) None value = Err UnknownNumber
 named_as None field value = Err UnknownNumber
 
+-- a field of the options message that was read
 abbrev pub name_one : List FileDescriptor → (message : Text) → Field → WireRead Named
 name_one files message f =
     named_as (name_in_options files message (pos f.number))
     (field_numbered files message (pos f.number)) f.value
 
+-- the fields that were read, in order
 abbrev pub name_each : List FileDescriptor → (message : Text) → List Field → WireRead (List Named)
 name_each files message [] = Ok []
 name_each files message (f ∷ fs) = do
@@ -67,6 +71,7 @@ options_said files message (b ∷ bs) = do
   fields ← reader files message (b ∷ bs)
   name_each files message fields
 
+-- what the Rust value says
 abbrev pub named_option_view : code.NamedOption → Named
 named_option_view o = record {
   name = string_bytes o.name;

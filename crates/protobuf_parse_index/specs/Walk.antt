@@ -27,56 +27,68 @@ abbrev mutual
       }
       ∷ messages_within path (name_within scope parts.name) nested
 
+  -- of messages that stand side by side
   pub messages_within : (path scope : Text) → MessageDescriptors
       → List (Standing MessageDescriptor)
   messages_within path scope no_messages = []
   messages_within path scope (messages m ms) =
       message_within path scope m ++ messages_within path scope ms
 
+-- the proto path of a file
 abbrev pub path_of : FileDescriptor → Text
 path_of file = unwrap_or file.name []
 
+-- the messages of a file
 abbrev pub messages_of : FileDescriptor → List (Standing MessageDescriptor)
 messages_of file =
     flat_map (message_within (path_of file) (package_scope file.«package»)) file.message_type
 
 -- ---- enums
 
+-- the enums of a list, in that scope
 abbrev pub enums_within : (path scope : Text) → List EnumDescriptor
     → List (Standing EnumDescriptor)
 enums_within path scope es = map
     (λ (e : EnumDescriptor).
     record { file = path; name = name_within scope e.name; what = e }) es
 
+-- those of a message
 abbrev pub enums_inside : Standing MessageDescriptor → List (Standing EnumDescriptor)
 enums_inside m = enums_within m.file m.name (parts_seen m.what).enum_type
 
+-- the enums of a file
 abbrev pub enums_of : FileDescriptor → List (Standing EnumDescriptor)
 enums_of file = flat_map enums_inside (messages_of file)
     ++ enums_within (path_of file) (package_scope file.«package») file.enum_type
 
 -- ---- extensions
 
+-- the extensions of a list, in that scope
 abbrev pub extensions_within : (path scope : Text) → List FieldDescriptor
     → List (Standing FieldDescriptor)
 extensions_within path scope fs = map
     (λ (f : FieldDescriptor).
     record { file = path; name = name_within scope f.name; what = f }) fs
 
+-- those that a message declares
 abbrev pub extensions_inside : Standing MessageDescriptor → List (Standing FieldDescriptor)
 extensions_inside m = extensions_within m.file m.name (parts_seen m.what).extension
 
+-- the extensions of a file
 abbrev pub extensions_of : FileDescriptor → List (Standing FieldDescriptor)
 extensions_of file = flat_map extensions_inside (messages_of file)
     ++ extensions_within (path_of file) (package_scope file.«package») file.extension
 
 -- ---- all files
 
+-- every message that some file declares
 abbrev pub all_messages : List FileDescriptor → List (Standing MessageDescriptor)
 all_messages files = flat_map messages_of files
 
+-- every enum that some file declares
 abbrev pub all_enums : List FileDescriptor → List (Standing EnumDescriptor)
 all_enums files = flat_map enums_of files
 
+-- every extension that some file declares
 abbrev pub all_extensions : List FileDescriptor → List (Standing FieldDescriptor)
 all_extensions files = flat_map extensions_of files

@@ -30,6 +30,7 @@ in_front t s = record { tokens = t ∷ s.tokens; end = s.end }
 abbrev pub behind : Stream → Stream
 behind s = record { tokens = drop 1 s.tokens; end = s.end }
 
+-- no tokens before the end there
 abbrev pub ends_at : Place → Stream
 ends_at p = record { tokens = []; end = p }
 

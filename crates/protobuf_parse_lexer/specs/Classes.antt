@@ -16,30 +16,37 @@ pub data Class : Type 0 where
   float : Class
   text : Class
 
+-- whether the word is one of these
 abbrev pub is_among : Bytes → List Bytes → Bool
 is_among w [] = false
 is_among w (v ∷ vs) = bytes_eq w v || is_among w vs
 
+-- an identifier, which keywords are too
 abbrev pub is_ident_token : TokenKind → Bool
 is_ident_token kind.Ident = true
 is_ident_token _ = false
 
+-- this symbol
 abbrev pub is_symbol_token : ℕ → TokenKind → Bool
 is_symbol_token c (kind.Symbol d) = eqb d c
 is_symbol_token c _ = false
 
+-- an integer
 abbrev pub is_integer : TokenKind → Bool
 is_integer (kind.Integer n) = true
 is_integer _ = false
 
+-- a float
 abbrev pub is_float : TokenKind → Bool
 is_float kind.Float = true
 is_float _ = false
 
+-- a string literal
 abbrev pub is_string : TokenKind → Bool
 is_string kind.Str = true
 is_string _ = false
 
+-- whether a token of that kind and text is of the class
 abbrev pub sees_at : Class → TokenKind → Bytes → Bool
 sees_at (symbol c) k w = is_symbol_token c k
 sees_at (word v) k w = is_ident_token k && bytes_eq w v
@@ -48,6 +55,7 @@ sees_at integer k w = is_integer k
 sees_at float k w = is_float k
 sees_at text k w = is_string k
 
+-- whether the token is of the class
 abbrev pub sees : Class → Lexeme → Bool
 sees c t = sees_at c t.kind t.text
 
@@ -66,5 +74,6 @@ words (w ∷ ws) = word w ∷ words ws
 abbrev pub floatings : List Class
 floatings = float ∷ word (codes "inf") ∷ word (codes "nan") ∷ []
 
+-- whether the token says a number that is no integer
 abbrev pub is_floating : Lexeme → Bool
 is_floating t = is_one_of floatings t

@@ -41,6 +41,7 @@ pub record Stream : Type 0 where
   pub tokens : List Lexeme
   pub end : Place
 
+-- what the tokens of a text say, without where they lie in memory
 abbrev pub stream : TokenStream → Stream
 stream s = record { tokens = map lexeme s.tokens.items; end = s.end }
 
@@ -59,12 +60,15 @@ IsRefused text error.NestingTooDeep at =
 IsRefused text e at =
     IsShort text × ((ts : List Lexeme) × (rest : Bytes) × Cuts text ts at rest × IsFault rest e)
 
+-- the fault at that place, as it is told
 abbrev pub located : ParserError → Place → ParserErrorWithLocation
 located e at = record { error = e; line = at.line; col = at.col }
 
+-- where the fault stands
 abbrev pub error_place : ParserErrorWithLocation → Place
 error_place e = record { line = e.line; col = e.col }
 
+-- the fault for want of memory, which has no place
 abbrev pub out_of_memory : ParserErrorWithLocation
 out_of_memory = record { error = error.Memory; line = 0; col = 0 }
 

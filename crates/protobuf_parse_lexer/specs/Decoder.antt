@@ -30,6 +30,7 @@ digits_end c z from limit = from + run c (take (limit - from) (drop from z))
 abbrev pub byte_if : Bool → ℕ → ℕ → Option Part
 byte_if b n v = cond b (Some (record { len = n; meaning = meaning.Byte v })) None
 
+-- the character v, if the test holds
 abbrev pub char_if : Bool → ℕ → ℕ → Option Part
 char_if b n v = cond b (Some (record { len = n; meaning = meaning.Char v })) None
 
@@ -46,6 +47,7 @@ char_part n z =
     let v = digits_value 16 (slice_range z 2 n) in
     char_if (nat_le n (length z) && digits_end class.Hex z 2 n == n && scalar v) n v
 
+-- a backslash and a letter, which name that byte
 abbrev pub letter_part : Option ℕ → Option Part
 letter_part None = None
 letter_part (Some b) = Some (record { len = 2; meaning = meaning.Byte b })
@@ -66,10 +68,12 @@ front_part b z = cond (b == char.backslash) (escape_by (after_backslash z) z)
 
 -- ---- pieces
 
+-- those bytes, and then what the rest says
 abbrev pub before : Bytes → Option Bytes → Option Bytes
 before w None = None
 before w (Some v) = Some (w ++ v)
 
+-- what a part says, and then what follows it says
 abbrev pub part_then : Option Part → (ℕ → Option Bytes) → Option Bytes
 part_then None rest = None
 part_then (Some p) rest = before (meaning_bytes p.meaning) (rest p.len)
@@ -85,19 +89,23 @@ decode_upto (suc k) (b ∷ z) = part_then (front_part b (b ∷ z)) (λ n. decode
 unfoldable pub decode_piece : Bytes → Option Bytes
 decode_piece z = decode_upto (length z) z
 
+-- what the one says, and then the other
 abbrev pub both : Option Bytes → Option Bytes → Option Bytes
 both None rest = None
 both (Some w) rest = before w rest
 
+-- the bytes of neighbouring literals, joined; none where an escape of one is wrong
 abbrev pub decode : List Bytes → Option Bytes
 decode [] = Some []
 decode (z ∷ zs) = both (decode_piece z) (decode zs)
 
 -- ---- what a string says
 
+-- bytes that are UTF-8
 abbrev pub text_when : Option Bytes → Option Bytes
 text_when None = None
 text_when (Some v) = cond (is_utf8 v) (Some v) None
 
+-- the bytes, where they are a text in UTF-8
 abbrev pub text_of : List Bytes → Option Bytes
 text_of zs = text_when (decode zs)

@@ -19,6 +19,7 @@ abbrev pub RefusesBytes : List Bytes → StrLitDecodeError → Type 0
 RefusesBytes pieces e = (e ≡ error.Memory)
     ⊎ ((e ≡ error.BadEscape) × ((v : Bytes) → DecodesAll pieces v → ⊥))
 
+-- an escape is wrong, or the bytes are not UTF-8; or memory ran out
 abbrev pub RefusesText : List Bytes → StrLitDecodeError → Type 0
 RefusesText pieces e = RefusesBytes pieces e
     ⊎ ((e ≡ error.NotUtf8) × ((v : Bytes) × DecodesAll pieces v × (IsUtf8 v → ⊥)))

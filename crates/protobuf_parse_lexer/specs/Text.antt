@@ -15,6 +15,7 @@ use Rattle.protobuf_parse_lexer.specs.declared.lexer.token.TokenKind.TheVariants
 use Rattle.std.specs.Prelude.{Option, Some, None}
 use Rattle.protobuf_parse_base.specs.Characters as char
 
+-- a text, or a part of one
 abbrev pub Bytes : Type 0
 Bytes = List ℕ
 
@@ -69,11 +70,13 @@ pub record IsBlock (z : Bytes) (n : ℕ) : Type 0 where
   pub closes : Closes z (n - 2)
   pub earlier : (k : ℕ) → 2 ≤ k → k + 2 < n → Closes z k → ⊥
 
+-- what is between tokens
 abbrev pub IsBlank : Bytes → ℕ → Type 0
 IsBlank z n = IsSpaces z n ⊎ IsLine z n ⊎ IsBlock z n
 
 -- ---- identifiers: ident = letter { letter | decimalDigit | "_" }, where "_" counts as a letter
 
+-- a letter or an underscore, and letters, digits and underscores behind it
 pub record IsIdentText (z : Bytes) (n : ℕ) : Type 0 where
   pub some : 0 < n
   pub within : n ≤ length z
@@ -82,9 +85,11 @@ pub record IsIdentText (z : Bytes) (n : ℕ) : Type 0 where
 
 -- ---- strings: a quote, characters and escapes, and the same quote
 
+-- with these bytes a string begins and ends
 abbrev pub IsQuote : ℕ → Type 0
 IsQuote b = (b ≡ char.quote) ⊎ (b ≡ char.apostrophe)
 
+-- no bytes
 abbrev pub is_empty : Bytes → Bool
 is_empty [] = true
 is_empty (b ∷ z) = false
@@ -100,6 +105,7 @@ is_rest quote false (b ∷ z) =
     if b == char.newline || b == char.nul then false
     else (if b == quote then is_empty z else is_rest quote (b == char.backslash) z)
 
+-- the quote at its end is the one at its front
 pub record IsString (z : Bytes) (n : ℕ) : Type 0 where
   pub some : 0 < n
   pub within : n ≤ length z
@@ -140,9 +146,11 @@ IsIntegerText z n v =
 -- ---- floats: decimals "." [ decimals ] [ exponent ] | decimals exponent | "." decimals [ exponent
 -- ]
 
+-- with these an exponent begins
 abbrev pub IsLetterE : ℕ → Type 0
 IsLetterE b = (b ≡ char.small_e) ⊎ (b ≡ char.capital_e)
 
+-- with these it may go on
 abbrev pub IsSign : ℕ → Type 0
 IsSign b = (b ≡ char.plus) ⊎ (b ≡ char.minus)
 
@@ -174,12 +182,15 @@ pub record IsFloat (z : Bytes) (n : ℕ) : Type 0 where
 
 -- ---- the longest literal
 
+-- an integer or a float
 abbrev pub IsNumberText : Bytes → ℕ → Type 0
 IsNumberText z n = IsDecimal z n ⊎ IsHex z n ⊎ IsOctal z n ⊎ IsFloat z n
 
+-- an identifier, a string or a number
 abbrev pub IsLiteral : Bytes → ℕ → Type 0
 IsLiteral z n = IsIdentText z n ⊎ IsString z n ⊎ IsNumberText z n
 
+-- no front of the text is such a thing
 abbrev pub NoFront : (Bytes → ℕ → Type 0) → Bytes → Type 0
 NoFront Is z = (m : ℕ) → Is z m → ⊥
 

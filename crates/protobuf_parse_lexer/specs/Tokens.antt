@@ -24,6 +24,7 @@ pub record Lexeme : Type 0 where
   pub text : Bytes
   pub place : Place
 
+-- what a token says
 abbrev pub lexeme : Token → Lexeme
 lexeme t = record { kind = kind_of t.text.now; text = t.text.now; place = t.place }
 
@@ -39,9 +40,11 @@ abbrev pub is_closing : TokenKind → Bool
 is_closing (kind.Symbol c) = c == char.close_brace || c == char.close_bracket || c == char.greater
 is_closing _ = false
 
+-- how many of the tokens open a bracket
 abbrev pub opened : List Lexeme → ℕ
 opened ts = count_by (λ t. is_opening t.kind) ts
 
+-- and how many close one
 abbrev pub closed : List Lexeme → ℕ
 closed ts = count_by (λ t. is_closing t.kind) ts
 
@@ -65,6 +68,7 @@ pub record DeepensAt (ts : List Lexeme) (at : Place) : Type 0 where
 
 -- ---- strings
 
+-- with these bytes a string begins and ends
 abbrev pub is_quote : ℕ → Bool
 is_quote b = b == char.quote || b == char.apostrophe
 

@@ -34,6 +34,8 @@ setting_said os entry = (entry.0, words_said entry.1 (last_value entry.0 os))
 abbrev pub settings_said : Table → Numbers → List OptionSyntax → List Setting
 settings_said table numbers os = map (setting_said os) (in_order table numbers)
 
+-- the lines of a construct's options, by what its statements say; without statements there are
+-- none
 abbrev pub lines_said : Table → Numbers → ℕ → Text → List OptionSyntax → Text
 lines_said table numbers level custom [] = []
 lines_said table numbers level custom (o ∷ os) =

@@ -21,9 +21,11 @@ pub record Standing : Type 0 where
   pub kind : DeclarationKind
   pub place : Place
 
+-- a name that is declared, as what and where
 abbrev pub DeclaredAt : Type 0
 DeclaredAt = Declared Standing
 
+-- that of the name in the scope
 abbrev pub declare_at : Scope → Text → DeclarationKind → Place → DeclaredAt
 declare_at scope name kind place = declare scope name (record { kind = kind; place = place })
 
@@ -34,6 +36,7 @@ behind_at scope (field f) =
 behind_at scope (group place label name number fields) =
     declare_at scope name kind.Generated place ∷ []
 
+-- what stands behind a field of a oneof
 abbrev pub oneof_at : Scope → OneofStatementSyntax → List DeclaredAt
 oneof_at scope (oneof_field f) = behind_at scope f
 oneof_at scope (oneof_option o) = []
@@ -56,15 +59,18 @@ abbrev mutual
       declare_at scope name kind.Message place ∷ inside_at (inside scope name) body
   body_at scope _ = []
 
+  -- what all statements of a body declare
   pub inside_at : Scope → MessageStatementList → List DeclaredAt
   inside_at scope no_statements = []
   inside_at scope (more_statements s ss) = body_at scope s ++ inside_at scope ss
 
+-- what a statement of a file declares
 abbrev pub statement_at : Scope → StatementSyntax → List DeclaredAt
 statement_at scope (file_message m) = body_at scope (nested_message m)
 statement_at scope (file_enum e) = body_at scope (message_enum e)
 statement_at scope (file_extend e) = body_at scope (message_extend e)
 statement_at scope _ = []
 
+-- what a file declares
 abbrev pub file_at : FileSyntax → List DeclaredAt
 file_at t = flat_map (statement_at (file_scope t)) t.statements

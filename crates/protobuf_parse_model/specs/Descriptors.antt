@@ -33,6 +33,7 @@ use Rattle.protobuf_parse_model.specs.declared.descriptor.DescriptorProto.{out-D
 use Rattle.protobuf_parse_model.specs.declared.descriptor.DescriptorProto.TheOpen.{DescriptorProto-F}
 use Rattle.protobuf_parse_model.specs.declared.descriptor.FileDescriptorProto.{FileDescriptorProto}
 
+-- a text, or bytes
 abbrev pub Text : Type 0
 Text = List ℕ
 
@@ -41,6 +42,7 @@ pub record Range : Type 0 where
   pub start : ℤ
   pub end : ℤ
 
+-- a field or an extension
 pub record FieldDescriptor : Type 0 where
   pub name : Text
   pub number : ℤ
@@ -54,15 +56,18 @@ pub record FieldDescriptor : Type 0 where
   pub proto3_optional : Bool
   pub options : Option FieldOptionValues
 
+-- a oneof
 pub record OneofDescriptor : Type 0 where
   pub name : Text
   pub options : Option OneofOptionValues
 
+-- a value of an enum
 pub record EnumValueDescriptor : Type 0 where
   pub name : Text
   pub number : ℤ
   pub options : Option EnumValueOptionValues
 
+-- an enum
 pub record EnumDescriptor : Type 0 where
   pub name : Text
   pub value : List EnumValueDescriptor
@@ -82,11 +87,12 @@ pub record MessageParts : Type 0 where
   pub reserved_name : List Text
   pub options : Option MessageOptionValues
 
--- a message, with the messages inside it
 mutual
+  -- a message, with the messages inside it
   pub data MessageDescriptor : Type 0 where
     a_message : MessageParts → MessageDescriptors → MessageDescriptor
 
+  -- messages that stand side by side
   pub data MessageDescriptors : Type 0 where
     no_messages : MessageDescriptors
     messages : MessageDescriptor → MessageDescriptors → MessageDescriptors
@@ -100,10 +106,12 @@ abbrev pub messages_list : MessageDescriptors → List MessageDescriptor
 messages_list no_messages = []
 messages_list (messages m ms) = m ∷ messages_list ms
 
+-- a list as such messages
 abbrev pub messages_of_list : List MessageDescriptor → MessageDescriptors
 messages_of_list [] = no_messages
 messages_of_list (m ∷ ms) = messages m (messages_of_list ms)
 
+-- a method of a service
 pub record MethodDescriptor : Type 0 where
   pub name : Text
   pub input_type : Text
@@ -112,11 +120,13 @@ pub record MethodDescriptor : Type 0 where
   pub server_streaming : Bool
   pub options : Option MethodOptionValues
 
+-- a service
 pub record ServiceDescriptor : Type 0 where
   pub name : Text
   pub method : List MethodDescriptor
   pub options : Option ServiceOptionValues
 
+-- a file
 pub record FileDescriptor : Type 0 where
   pub name : Option Text
   pub «package» : Option Text
@@ -132,6 +142,7 @@ pub record FileDescriptor : Type 0 where
 
 -- ---- what the Rust values say
 
+-- a field or an extension
 abbrev pub field_view : FieldDescriptorProto → FieldDescriptor
 field_view f = record {
   name = name_bytes f.name;
@@ -147,10 +158,12 @@ field_view f = record {
   options = option_map field_options_view f.options;
 }
 
+-- a oneof
 abbrev pub oneof_view : OneofDescriptorProto → OneofDescriptor
 oneof_view o =
     record { name = name_bytes o.name; options = option_map oneof_options_view o.options }
 
+-- a value of an enum
 abbrev pub enum_value_view : EnumValueDescriptorProto → EnumValueDescriptor
 enum_value_view v =
     record {
@@ -160,15 +173,19 @@ enum_value_view v =
           option_map enum_value_options_view v.options;
     }
 
+-- a reserved range of an enum, whose end is in it
 abbrev pub enum_range_view : EnumReservedRange → Range
 enum_range_view r = record { start = r.start; end = r.end }
 
+-- a range for extensions, whose end is behind it
 abbrev pub extension_range_view : ExtensionRange → Range
 extension_range_view r = record { start = r.start; end = r.end }
 
+-- a reserved range of a message, whose end is behind it
 abbrev pub reserved_range_view : ReservedRange → Range
 reserved_range_view r = record { start = r.start; end = r.end }
 
+-- an enum
 abbrev pub enum_view : EnumDescriptorProto → EnumDescriptor
 enum_view e = record {
   name = name_bytes e.name;
@@ -192,15 +209,19 @@ parts_of_message m = record {
   options = option_map message_options_view m.options;
 }
 
+-- one level, with the messages inside already seen
 abbrev pub message_step : DescriptorProto-F MessageDescriptor → MessageDescriptor
 message_step m = a_message (parts_of_message m) (messages_of_list m.nested_type.items)
 
+-- a message, with those inside it
 abbrev pub message_view : DescriptorProto → MessageDescriptor
 message_view = fold-DescriptorProto MessageDescriptor message_step
 
+-- a message without those inside it
 abbrev pub message_parts : DescriptorProto → MessageParts
 message_parts m = parts_of_message (out-DescriptorProto m)
 
+-- a method
 abbrev pub method_view : MethodDescriptorProto → MethodDescriptor
 method_view m = record {
   name = name_bytes m.name;
@@ -211,6 +232,7 @@ method_view m = record {
   options = option_map method_options_view m.options;
 }
 
+-- a service
 abbrev pub service_view : ServiceDescriptorProto → ServiceDescriptor
 service_view s =
     record {
@@ -220,6 +242,7 @@ service_view s =
           option_map service_options_view s.options;
     }
 
+-- a whole file
 abbrev pub file_view : FileDescriptorProto → FileDescriptor
 file_view f = record {
   name = option_map string_bytes f.name;

@@ -10,6 +10,7 @@ use Rattle.protobuf_parse_model.specs.Faults.{Wrong, Fault, placed}
 abbrev pub fault_when : Bool → ElabErrorKind → Text → List Wrong
 fault_when stands kind what = if stands then record { kind = kind; what = what } ∷ [] else []
 
+-- one fault, of this kind and with this text
 abbrev pub fault : ElabErrorKind → Text → List Wrong
 fault kind what = record { kind = kind; what = what } ∷ []
 

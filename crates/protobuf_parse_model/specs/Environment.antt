@@ -21,6 +21,7 @@ CustomFaults = Construct → Scope → List OptionSyntax → List Fault
 abbrev pub CustomBytes : Type 0
 CustomBytes = Construct → Scope → List OptionSyntax → Text
 
+-- what is known of the custom options that a file sets
 pub record Customs : Type 0 where
   pub faults : CustomFaults
   pub bytes : CustomBytes
@@ -33,6 +34,7 @@ spelled_so bytes = record { faults = λ construct scope options. []; bytes = byt
 abbrev pub no_customs : Customs
 no_customs = spelled_so (λ construct scope options. [])
 
+-- what is known where a construct stands
 pub record Environment : Type 0 where
   pub syntax : Syntax
   -- the messages and the enums that the file sees, by full name
@@ -63,6 +65,7 @@ abbrev pub missing : {A : Type 0} → Text → Option A → List Wrong
 missing name (Some x) = []
 missing name None = missing_name name
 
+-- E2 or E3 where the name of a type means nothing
 abbrev pub type_missing : Environment → Text → List Wrong
 type_missing env name = missing name (type_named env name)
 
@@ -81,6 +84,7 @@ abbrev pub part_text : OptionPartSyntax → Text
 part_text (direct name) = name
 part_text (extension name) = codes "(" ++ name ++ codes ")"
 
+-- a whole name, with dots between its parts
 abbrev pub option_path_text : List OptionPartSyntax → Text
 option_path_text [] = []
 option_path_text (p ∷ ps) =

@@ -25,6 +25,7 @@ pub record Fault : Type 0 where
 abbrev pub placed : Place → List Wrong → List Fault
 placed place wrongs = map (λ (w : Wrong). record { place = place; wrong = w }) wrongs
 
+-- what the Rust value says
 abbrev pub fault_view : ElabError → Fault
 fault_view e = record {
   place = e.place;

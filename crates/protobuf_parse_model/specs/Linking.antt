@@ -21,6 +21,7 @@ use Rattle.protobuf_parse_model.specs.Declarations.{file_generated, file_extensi
 abbrev pub type_names : FileSyntax → List Text
 type_names t = map (λ (d : DeclaredType). d.name) (file_types t) ++ file_generated t
 
+-- the full names of extensions
 abbrev pub extension_names : FileSyntax → List Text
 extension_names t = map (λ (d : DeclaredExtension). d.name) (file_extensions t)
 
@@ -46,6 +47,7 @@ repeated names = filter (λ (name : Text). nat_lt 1 (occurrences name names)) na
 abbrev pub beginning : Place
 beginning = record { line = 1; col = 1 }
 
+-- that fault of the name
 abbrev pub declared_twice : ElabErrorKind → Text → List Fault
 declared_twice kind name = placed beginning (fault kind name)
 

@@ -15,6 +15,7 @@ use Rattle.protobuf_parse_model.specs.Descriptors.{Text}
 use Rattle.protobuf_parse_model.specs.Faults.{Among}
 use Rattle.protobuf_parse_model.specs.Declarations.{Scope, full_name, Declared}
 
+-- such a name is a full name already
 abbrev pub begins_with_dot : Text → Bool
 begins_with_dot [] = false
 begins_with_dot (b ∷ bs) = b == char.dot
@@ -33,10 +34,12 @@ declared_in_first of name [] = None
 declared_in_first of name (scope ∷ scopes) =
     option_or (of (full_name scope name)) (declared_in_first of name scopes)
 
+-- what a name means in a scope
 abbrev pub meant : {A : Type 0} → Meanings A → Scope → Text → Option (Declared A)
 meant of scope name =
     if begins_with_dot name then of name else declared_in_first of name (fronts scope)
 
+-- what the name means in the scope, where a file sees these declarations
 abbrev pub meaning : {A : Type 0} → List (Declared A) → Scope → Text → Option (Declared A)
 meaning ds scope name = meant (declared ds) scope name
 

@@ -12,6 +12,7 @@ use Rattle.protobuf_parse_model.specs.BuiltinOptions.{where_any}
 use Rattle.protobuf_parse_model.specs.Words.{optimize_modes, c_types, js_types, idempotency_levels}
 use Rattle.protobuf_parse_model.specs.Descriptors.{Text}
 
+-- FileOptions
 abbrev pub file_options : Text → List OptionSyntax → Option FileOptionValues
 file_options custom os = where_any os (record {
   java_package = text_option os (codes "java_package");
@@ -36,6 +37,7 @@ file_options custom os = where_any os (record {
   custom = custom;
 })
 
+-- MessageOptions
 abbrev pub message_options : Text → List OptionSyntax → Option MessageOptionValues
 message_options custom os = where_any os (record {
   message_set_wire_format = truth_option os (codes "message_set_wire_format");
@@ -56,6 +58,7 @@ entry_options =
       custom = [];
     })
 
+-- FieldOptions
 abbrev pub field_options : Text → List OptionSyntax → Option FieldOptionValues
 field_options custom os = where_any os (record {
   ctype = word_option c_types os (codes "ctype");
@@ -69,9 +72,11 @@ field_options custom os = where_any os (record {
   custom = custom;
 })
 
+-- OneofOptions
 abbrev pub oneof_options : Text → List OptionSyntax → Option OneofOptionValues
 oneof_options custom os = where_any os (record { custom = custom })
 
+-- EnumOptions
 abbrev pub enum_options : Text → List OptionSyntax → Option EnumOptionValues
 enum_options custom os = where_any os (record {
   allow_alias = truth_option os (codes "allow_alias");
@@ -79,18 +84,21 @@ enum_options custom os = where_any os (record {
   custom = custom;
 })
 
+-- EnumValueOptions
 abbrev pub enum_value_options : Text → List OptionSyntax → Option EnumValueOptionValues
 enum_value_options custom os = where_any os (record {
   deprecated = truth_option os (codes "deprecated");
   custom = custom;
 })
 
+-- ServiceOptions
 abbrev pub service_options : Text → List OptionSyntax → Option ServiceOptionValues
 service_options custom os = where_any os (record {
   deprecated = truth_option os (codes "deprecated");
   custom = custom;
 })
 
+-- MethodOptions
 abbrev pub method_options : Text → List OptionSyntax → Option MethodOptionValues
 method_options custom os = where_any os (record {
   deprecated = truth_option os (codes "deprecated");

@@ -14,6 +14,7 @@ use Rattle.protobuf_parse_model.specs.declared.descriptor.options.EnumValueOptio
 use Rattle.protobuf_parse_model.specs.declared.descriptor.options.ServiceOptions.{ServiceOptions}
 use Rattle.protobuf_parse_model.specs.declared.descriptor.options.MethodOptions.{MethodOptions}
 
+-- FileOptions; in this and those that follow an absent option is None
 pub record FileOptionValues : Type 0 where
   pub java_package : Option (List ℕ)
   pub java_outer_classname : Option (List ℕ)
@@ -36,6 +37,7 @@ pub record FileOptionValues : Type 0 where
   pub ruby_package : Option (List ℕ)
   pub custom : List ℕ
 
+-- MessageOptions
 pub record MessageOptionValues : Type 0 where
   pub message_set_wire_format : Option Bool
   pub no_standard_descriptor_accessor : Option Bool
@@ -43,6 +45,7 @@ pub record MessageOptionValues : Type 0 where
   pub map_entry : Option Bool
   pub custom : List ℕ
 
+-- FieldOptions
 pub record FieldOptionValues : Type 0 where
   pub ctype : Option CType
   pub packed : Option Bool
@@ -54,27 +57,35 @@ pub record FieldOptionValues : Type 0 where
   pub debug_redact : Option Bool
   pub custom : List ℕ
 
+-- OneofOptions
 pub record OneofOptionValues : Type 0 where
   pub custom : List ℕ
 
+-- EnumOptions
 pub record EnumOptionValues : Type 0 where
   pub allow_alias : Option Bool
   pub deprecated : Option Bool
   pub custom : List ℕ
 
+-- EnumValueOptions
 pub record EnumValueOptionValues : Type 0 where
   pub deprecated : Option Bool
   pub custom : List ℕ
 
+-- ServiceOptions
 pub record ServiceOptionValues : Type 0 where
   pub deprecated : Option Bool
   pub custom : List ℕ
 
+-- MethodOptions
 pub record MethodOptionValues : Type 0 where
   pub deprecated : Option Bool
   pub idempotency_level : Option IdempotencyLevel
   pub custom : List ℕ
 
+-- ---- what the Rust values say
+
+-- FileOptions
 abbrev pub file_options_view : FileOptions → FileOptionValues
 file_options_view o = record {
   java_package = option_map string_bytes o.java_package;
@@ -99,6 +110,7 @@ file_options_view o = record {
   custom = o.custom.items;
 }
 
+-- MessageOptions
 abbrev pub message_options_view : MessageOptions → MessageOptionValues
 message_options_view o = record {
   message_set_wire_format = o.message_set_wire_format;
@@ -108,6 +120,7 @@ message_options_view o = record {
   custom = o.custom.items;
 }
 
+-- FieldOptions
 abbrev pub field_options_view : FieldOptions → FieldOptionValues
 field_options_view o = record {
   ctype = o.ctype;
@@ -121,11 +134,13 @@ field_options_view o = record {
   custom = o.custom.items;
 }
 
+-- OneofOptions
 abbrev pub oneof_options_view : OneofOptions → OneofOptionValues
 oneof_options_view o = record {
   custom = o.custom.items;
 }
 
+-- EnumOptions
 abbrev pub enum_options_view : EnumOptions → EnumOptionValues
 enum_options_view o = record {
   allow_alias = o.allow_alias;
@@ -133,18 +148,21 @@ enum_options_view o = record {
   custom = o.custom.items;
 }
 
+-- EnumValueOptions
 abbrev pub enum_value_options_view : EnumValueOptions → EnumValueOptionValues
 enum_value_options_view o = record {
   deprecated = o.deprecated;
   custom = o.custom.items;
 }
 
+-- ServiceOptions
 abbrev pub service_options_view : ServiceOptions → ServiceOptionValues
 service_options_view o = record {
   deprecated = o.deprecated;
   custom = o.custom.items;
 }
 
+-- MethodOptions
 abbrev pub method_options_view : MethodOptions → MethodOptionValues
 method_options_view o = record {
   deprecated = o.deprecated;

@@ -18,15 +18,19 @@ full_names scope name = if begins_with_dot name then name ∷ [] else names_outw
 
 -- ---- those that the code goes through
 
+-- the name that is looked up now
 abbrev pub first_name : Outward → Text
 first_name names = string_bytes names.first
 
+-- those that come after it
 abbrev pub later_names : Outward → List Text
 later_names names = drop 1 (names_outward (name_texts names.scope.now) names.name.now)
 
+-- all that are left, the one that is looked up now first
 abbrev pub names_of : Outward → List Text
 names_of names = first_name names ∷ later_names names
 
+-- those that are left; there are none behind the last
 abbrev pub names_left : Option Outward → List Text
 names_left None = []
 names_left (Some names) = names_of names

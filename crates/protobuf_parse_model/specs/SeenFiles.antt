@@ -23,6 +23,7 @@ use Rattle.protobuf_parse_model.specs.Environment.{Environment, Customs, no_cust
 abbrev pub name_texts : List (Bor (List ℕ)) → List Text
 name_texts names = map (λ (s : Bor (List ℕ)). s.now) names
 
+-- which of the two a type is
 abbrev pub kind_view : TypeKind → declared.MessageOrEnum
 kind_view kind.Message = a_message
 kind_view kind.Enum = an_enum
@@ -45,6 +46,7 @@ first_type sight (d ∷ ds) = if list_any (nat_eq d.file) sight
 abbrev pub declared_as : Declarations → Text → List Declaration
 declared_as ds name = declared_by_hash ds.by_hash.items name
 
+-- a type of that name
 abbrev pub declared_type : Text → TypeKind → DeclaredType
 declared_type name k = record { name = name; what = kind_view k }
 

@@ -7,6 +7,7 @@ use Rattle.protobuf_parse_syntax.specs.declared.dependencies.Dependencies.{Depen
 use Rattle.protobuf_parse_syntax.specs.declared.tree.ImportVis.{ImportVis}
 use Rattle.protobuf_parse_syntax.specs.declared.tree.ImportVis.TheVariants as vis
 
+-- the import that a statement is, if it is one
 abbrev pub imported : StatementSyntax → List ImportSyntax
 imported (file_import i) = i ∷ []
 imported _ = []
@@ -15,10 +16,12 @@ imported _ = []
 abbrev pub imports : List StatementSyntax → List ImportSyntax
 imports ss = flat_map imported ss
 
+-- the import has the word `public`
 abbrev pub is_public : ImportVis → Bool
 is_public vis.Public = true
 is_public _ = false
 
+-- the import has the word `weak`
 abbrev pub is_weak : ImportVis → Bool
 is_weak vis.Weak = true
 is_weak _ = false
@@ -39,6 +42,7 @@ pub record FileImports : Type 0 where
   pub public : List ℤ
   pub weak : List ℤ
 
+-- what imports in source order say
 abbrev pub imports_of : List ImportSyntax → FileImports
 imports_of is = record {
   paths = map (λ i. i.path) is;
@@ -46,9 +50,11 @@ imports_of is = record {
   weak = positions is_weak 0 is;
 }
 
+-- what the imports among a file's statements say
 unfoldable pub dependencies_of : List StatementSyntax → FileImports
 dependencies_of ss = imports_of (imports ss)
 
+-- what the Rust value says of them
 abbrev pub dependencies_view : Dependencies → FileImports
 dependencies_view d = record {
   paths = map string_bytes d.dependency.items;

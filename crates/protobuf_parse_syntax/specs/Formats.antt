@@ -17,6 +17,7 @@ use Rattle.protobuf_parse_syntax.specs.Trees.{truth, dotted, string, list, field
 use Rattle.protobuf_parse_syntax.specs.Trees.{no_constants, more_constants, ConstantFieldList}
 use Rattle.protobuf_parse_syntax.specs.Trees.{no_fields, more_fields}
 
+-- the word of a truth value
 abbrev pub truth_word : Bool → Bytes
 truth_word true = codes "true"
 truth_word false = codes "false"
@@ -38,12 +39,15 @@ quotes_escaped taken [] = []
 quotes_escaped taken (b ∷ bs) =
     escape_before taken b ++ b ∷ quotes_escaped (b == char.backslash && not taken) bs
 
+-- a piece in double quotes
 abbrev pub piece_text : Bytes → Bytes
 piece_text piece = codes "\"" ++ quotes_escaped false piece ++ codes "\""
 
+-- the pieces of a string, with a blank between each two
 abbrev pub string_text : Pieces → Bytes
 string_text pieces = join_with_byte char.space (map piece_text pieces)
 
+-- whether a constant is a message
 abbrev pub is_message : ConstantSyntax → Bool
 is_message (fields fs) = true
 is_message _ = false
@@ -55,6 +59,7 @@ field_text n v text =
     else name_text n ++ codes ": " ++ text ++ codes " "
 
 unfoldable mutual
+  -- a constant as text
   pub format : ConstantSyntax → Bytes
   format (integer z) = signed_decimal z
   format (truth b) = truth_word b
@@ -63,10 +68,12 @@ unfoldable mutual
   format (list cs) = codes "[" ++ join_with_byte char.comma (formats cs) ++ codes "]"
   format (fields fs) = codes "{ " ++ all_fields_text fs ++ codes "}"
 
+  -- each of a list
   pub formats : ConstantList → List Bytes
   formats no_constants = []
   formats (more_constants c cs) = format c ∷ formats cs
 
+  -- the fields of a message, one behind the other
   pub all_fields_text : ConstantFieldList → Bytes
   all_fields_text no_fields = []
   all_fields_text (more_fields n v fs) = field_text n v (format v) ++ all_fields_text fs

@@ -43,13 +43,15 @@ use Rattle.protobuf_parse_syntax.specs.declared.tree.field.Scalar.TheVariants as
 
 -- ---- tokens
 
+-- the value, if the test holds
 abbrev pub if_so : {A : Type 0} → Bool → A → Option A
 if_so b a = cond b (Some a) None
 
--- this symbol, this word
+-- this symbol
 abbrev pub IsSymbol : ℕ → Rel Lexeme (Unit {0})
 IsSymbol c = One (λ t. if_so (sees (symbol c) t) tt)
 
+-- this word
 abbrev pub IsWord : Bytes → Rel Lexeme (Unit {0})
 IsWord w = One (λ t. if_so (sees (word w) t) tt)
 
@@ -57,6 +59,7 @@ IsWord w = One (λ t. if_so (sees (word w) t) tt)
 abbrev pub any_ident : Lexeme → Option Bytes
 any_ident t = if_so (sees (ident []) t) t.text
 
+-- any identifier
 abbrev pub IsIdent : Rel Lexeme Bytes
 IsIdent = One any_ident
 
@@ -69,6 +72,7 @@ lookup (e ∷ es) w = cond (bytes_eq w e.0) (Some e.1) (lookup es w)
 abbrev pub word_of : {A : Type 0} → List (Bytes × A) → Lexeme → Option A
 word_of table t = cond (is_ident_token t.kind) (lookup table t.text) None
 
+-- a word of the table
 abbrev pub IsWordOf : {A : Type 0} → List (Bytes × A) → Rel Lexeme A
 IsWordOf table = One (word_of table)
 
@@ -82,6 +86,7 @@ abbrev pub number_at : TokenKind → Option ℕ
 number_at (kind.Integer n) = Some n
 number_at _ = None
 
+-- the number of an integer token
 abbrev pub number : Lexeme → Option ℕ
 number t = number_at t.kind
 
@@ -90,12 +95,15 @@ abbrev pub small_at : ℕ → TokenKind → Option ℕ
 small_at limit (kind.Integer n) = cond (nat_le n limit) (Some n) None
 small_at limit _ = None
 
+-- and of one that is at most so much
 abbrev pub small_number : ℕ → Lexeme → Option ℕ
 small_number limit t = small_at limit t.kind
 
+-- an integer
 abbrev pub IsNumber : Rel Lexeme ℕ
 IsNumber = One number
 
+-- an integer of at most so much
 abbrev pub IsNumberUpTo : ℕ → Rel Lexeme ℕ
 IsNumberUpTo limit = One (small_number limit)
 
@@ -109,6 +117,7 @@ abbrev pub piece_at : TokenKind → Bytes → Option Bytes
 piece_at kind.Str z = Some (unquoted z)
 piece_at _ z = None
 
+-- the text between the quotes of a string token
 abbrev pub string_piece : Lexeme → Option Bytes
 string_piece t = piece_at t.kind t.text
 
@@ -147,24 +156,29 @@ Braced R = do
 
 -- ---- str = string token { string token }
 
+-- strings that stand side by side
 unfoldable pub IsStr : Rel Lexeme Pieces
 IsStr = OneOrMore (One string_piece)
 
 -- ---- ident { "." ident }, and name = [ "." ] ident { "." ident }
 
+-- each part behind a dot
 abbrev pub dots : List Bytes → Bytes
 dots [] = []
 dots (part ∷ parts) = char.dot ∷ part ++ dots parts
 
+-- a name without a dot before it
 unfoldable pub IsDotted : Rel Lexeme Bytes
 IsDotted = do
   first ← IsIdent
   others ← Many (do IsSymbol char.dot; IsIdent)
   Nothing (first ++ dots others)
 
+-- the dot before a name, if one stands there
 unfoldable pub IsRoot : Rel Lexeme Bytes
 IsRoot = Either (do IsSymbol char.dot; Nothing (char.dot ∷ [])) (Nothing [])
 
+-- a name, perhaps with a dot before it
 unfoldable pub IsName : Rel Lexeme Bytes
 IsName = do
   root ← IsRoot
@@ -174,6 +188,7 @@ IsName = do
 -- ---- constant = msgconst | list | "true" | "false" | [ "+" | "-" ] int | str | ident { "." ident
 -- }
 
+-- the words of truth values
 abbrev pub truth_words : List Bytes
 truth_words = codes "true" ∷ codes "false" ∷ []
 
@@ -193,6 +208,7 @@ AfterSlash name =
     (do IsSymbol char.slash; rest ← IsName; Nothing (tree.url_name (name ++ char.slash ∷ rest)))
     (Nothing (tree.extension_name name))
 
+-- the name of an extension or a type URL, in brackets
 unfoldable pub IsBracketedName : Rel Lexeme ConstantNameSyntax
 IsBracketedName = do
   IsSymbol char.open_bracket
@@ -201,6 +217,7 @@ IsBracketedName = do
   IsSymbol char.close_bracket
   Nothing name
 
+-- the name of a field of a message constant
 unfoldable pub IsConstantName : Rel Lexeme ConstantNameSyntax
 IsConstantName = Either (do name ← IsIdent; Nothing (tree.regular_name name)) IsBracketedName
 
@@ -245,6 +262,7 @@ IsWordConstant =
     (Either (do IsWord (codes "false"); Nothing (tree.truth false))
     (do name ← Unless (is_one_of (words truth_words)) IsDotted; Nothing (tree.dotted name)))
 
+-- a constant, with the constants inside by C
 unfoldable pub ConstantOf : Rel Lexeme ConstantSyntax → Rel Lexeme ConstantSyntax
 ConstantOf C =
     Either (MessageConstantOf C)
@@ -275,6 +293,7 @@ abbrev pub option_name : OptionPartSyntax → List OptionPartSyntax → OptionNa
 option_name (tree.direct name) [] = tree.builtin name
 option_name part parts = tree.custom (part ∷ parts)
 
+-- a further part of an option's name
 unfoldable pub IsNextPart : Rel Lexeme OptionPartSyntax
 IsNextPart = do IsSymbol char.dot; IsOptionPart
 
@@ -285,6 +304,7 @@ IsOptionName = do
   others ← AtMost 99 IsNextPart
   Nothing (option_name first others)
 
+-- optname "=" constant
 unfoldable pub IsAssignment : ℕ → Rel Lexeme OptionSyntax
 IsAssignment n = At place_of λ place. do
   name ← IsOptionName
@@ -292,6 +312,7 @@ IsAssignment n = At place_of λ place. do
   value ← IsConstant n
   Nothing (record { place = place; name = name; value = value })
 
+-- an option as a statement
 unfoldable pub IsOption : ℕ → Rel Lexeme OptionStatementSyntax
 IsOption n = At place_of λ place. do
   IsWord (codes "option")
@@ -312,6 +333,7 @@ AreOptions n =
 
 -- ---- type = scalar | "map" "<" type "," type ">" | name
 
+-- the words of scalar types
 abbrev pub scalars : List (Bytes × Scalar)
 scalars =
     (codes "int32", scalar.Int32) ∷ (codes "int64", scalar.Int64) ∷ (codes "uint32", scalar.Uint32)
@@ -322,6 +344,7 @@ scalars =
     ∷ (codes "bool", scalar.Bool) ∷ (codes "string", scalar.String) ∷ (codes "bytes", scalar.Bytes)
     ∷ (codes "float", scalar.Float) ∷ (codes "double", scalar.Double) ∷ []
 
+-- a map, with the types inside by T
 unfoldable pub MapOf : Rel Lexeme TypeSyntax → Rel Lexeme TypeSyntax
 MapOf T = do
   IsWord (codes "map")
@@ -349,6 +372,7 @@ IsType = Level (λ n. TypeOf)
 -- ---- field = [ label ] type ident "=" int [ options ] ";"
 -- ----       | [ label ] "group" ident "=" int "{" { ";" | field } "}"
 
+-- the words of labels
 abbrev pub labels : List (Bytes × Label)
 labels =
     (codes "optional", label.Optional) ∷ (codes "required", label.Required)
@@ -372,6 +396,7 @@ IsFieldNumber = do n ← IsNumberUpTo 2147483647; Nothing (pos n)
 abbrev pub is_capital : ℕ → Bool
 is_capital c = nat_le char.capital_a c && nat_le c char.capital_z
 
+-- an identifier with such a first character
 abbrev pub capital_ident : Lexeme → Option Bytes
 capital_ident t = cond (is_capital (slice_index t.text 0)) (any_ident t) None
 
@@ -444,12 +469,14 @@ IsOneofField syntax n = At place_of λ place.
     Unless (is_one_of (words (codes "map" ∷ table_words labels ++ statement_words)))
     (AfterLabel n (IsField syntax n) place None)
 
+-- a statement of a oneof
 unfoldable pub IsOneofStatement : Syntax → ℕ → Rel Lexeme OneofStatementSyntax
 IsOneofStatement syntax n =
     Either
     (do o ← IsOption n; Nothing (tree.oneof_option o))
     (do f ← IsOneofField syntax n; Nothing (tree.oneof_field f))
 
+-- a oneof, with its body
 unfoldable pub IsOneof : Syntax → ℕ → Rel Lexeme OneofSyntax
 IsOneof syntax n = At place_of λ place. do
   IsWord (codes "oneof")
@@ -459,6 +486,7 @@ IsOneof syntax n = At place_of λ place. do
 
 -- ---- extend = "extend" name "{" { ";" | field } "}"
 
+-- an `extend`, with its body
 unfoldable pub IsExtend : Syntax → ℕ → Rel Lexeme ExtendSyntax
 IsExtend syntax n = At place_of λ place. do
   IsWord (codes "extend")
@@ -477,6 +505,7 @@ IsRangeEnd from =
       Either IsFieldNumber (do IsWord (codes "max"); Nothing (pos 536870911)))
     (Nothing from)
 
+-- numbers of fields or values, from one to another or one alone
 unfoldable pub IsRange : Rel Lexeme RangeSyntax
 IsRange = do
   from ← IsFieldNumber
@@ -492,12 +521,14 @@ IsReservedName = do
   text ← Such (StandsFor pieces)
   Nothing text
 
+-- names, or ranges
 unfoldable pub AreReserved : Rel Lexeme ReservedSyntax
 AreReserved =
     Either
     (do names ← Separated IsComma IsReservedName; Nothing (tree.reserved_names names))
     (do ranges ← Separated IsComma IsRange; Nothing (tree.reserved_ranges ranges))
 
+-- a `reserved` statement
 unfoldable pub IsReserved : Rel Lexeme ReservedStatementSyntax
 IsReserved = At place_of λ place. do
   IsWord (codes "reserved")
@@ -507,6 +538,7 @@ IsReserved = At place_of λ place. do
 
 -- ---- extensions = "extensions" range { "," range }
 
+-- an `extensions` statement
 unfoldable pub IsExtensions : Rel Lexeme ExtensionsSyntax
 IsExtensions = At place_of λ place. do
   IsWord (codes "extensions")
@@ -530,12 +562,14 @@ IsEnumValue n = At place_of λ place. do
   options ← AreOptions n
   Nothing (record { place = place; name = name; number = number; options = options })
 
+-- a statement of an enum
 unfoldable pub IsEnumStatement : ℕ → Rel Lexeme EnumStatementSyntax
 IsEnumStatement n =
     Either (do r ← IsReserved; Nothing (tree.enum_reserved r))
     (Either (do o ← IsOption n; Nothing (tree.enum_option o))
     (do v ← IsEnumValue n; Nothing (tree.enum_value v)))
 
+-- an enum, with its body
 unfoldable pub IsEnum : ℕ → Rel Lexeme EnumSyntax
 IsEnum n = At place_of λ place. do
   IsWord (codes "enum")
@@ -564,6 +598,7 @@ MessageStatementOf syntax n M =
     (Either (do o ← IsOption n; Nothing (tree.message_option o))
     (do f ← IsField syntax n; Nothing (tree.message_field f))))))))
 
+-- a message, with its body, the messages in which are by M
 unfoldable pub MessageOf : Syntax → ℕ → Rel Lexeme MessageSyntax → Rel Lexeme MessageSyntax
 MessageOf syntax n M = At place_of λ place. do
   IsWord (codes "message")
@@ -637,12 +672,14 @@ unfoldable pub IsStreamIn : Syntax → ℕ → Rel Lexeme MethodSyntax
 IsStreamIn Proto2 n = IsStream n
 IsStreamIn Proto3 n = Never
 
+-- a statement of a service
 unfoldable pub IsServiceStatement : Syntax → ℕ → Rel Lexeme ServiceStatementSyntax
 IsServiceStatement syntax n =
     Either (do m ← IsRpc n; Nothing (tree.service_method m))
     (Either (do m ← IsStreamIn syntax n; Nothing (tree.service_method m))
     (do o ← IsOption n; Nothing (tree.service_option o)))
 
+-- a service, with its body
 unfoldable pub IsService : Syntax → ℕ → Rel Lexeme ServiceSyntax
 IsService syntax n = At place_of λ place. do
   IsWord (codes "service")
@@ -652,6 +689,7 @@ IsService syntax n = At place_of λ place. do
 
 -- ---- syntax = "syntax" "=" str ";"
 
+-- what `syntax` calls the language
 abbrev pub name_of : Syntax → Bytes
 name_of Proto2 = codes "proto2"
 name_of Proto3 = codes "proto3"
@@ -660,12 +698,14 @@ name_of Proto3 = codes "proto3"
 abbrev pub SaysVersion : Pieces → Syntax → Type 0
 SaysVersion pieces syntax = DecodesAll pieces (name_of syntax)
 
+-- the text of `syntax`
 unfoldable pub IsVersion : Rel Lexeme Syntax
 IsVersion = do
   pieces ← IsStr
   syntax ← Such (SaysVersion pieces)
   Nothing syntax
 
+-- the `syntax` statement
 unfoldable pub IsSyntax : Rel Lexeme Syntax
 IsSyntax = do
   IsWord (codes "syntax")
@@ -676,6 +716,7 @@ IsSyntax = do
 
 -- ---- import = "import" [ "weak" | "public" ] str ";"
 
+-- the word behind `import`
 unfoldable pub IsVisibility : Rel Lexeme ImportVis
 IsVisibility =
     Either
@@ -686,12 +727,14 @@ IsVisibility =
 abbrev pub SaysPath : Pieces → Bytes → Type 0
 SaysPath pieces path = StandsFor pieces path × IsProtoPath path
 
+-- the text of `import`
 unfoldable pub IsPath : Rel Lexeme Bytes
 IsPath = do
   pieces ← IsStr
   path ← Such (SaysPath pieces)
   Nothing path
 
+-- an `import` statement
 unfoldable pub IsImport : Rel Lexeme ImportSyntax
 IsImport = At place_of λ place. do
   IsWord (codes "import")
@@ -702,6 +745,7 @@ IsImport = At place_of λ place. do
 
 -- ---- package = "package" ident { "." ident } ";"
 
+-- a `package` statement
 unfoldable pub IsPackage : Rel Lexeme PackageSyntax
 IsPackage = At place_of λ place. do
   IsWord (codes "package")
@@ -711,6 +755,7 @@ IsPackage = At place_of λ place. do
 
 -- ---- file = [ syntax ] { import | package | option | message | enum | extend | service | ";" }
 
+-- a statement of a file
 unfoldable pub IsFileStatement : Syntax → ℕ → Rel Lexeme StatementSyntax
 IsFileStatement syntax n =
     Either (do i ← IsImport; Nothing (tree.file_import i))

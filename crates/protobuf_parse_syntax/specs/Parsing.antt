@@ -27,6 +27,7 @@ use Rattle.protobuf_parse_syntax.specs.declared.tree.Syntax.{Syntax}
 
 -- ---- tokens without a tree
 
+-- the tokens say no tree
 abbrev pub NoTree : List Lexeme → Type 0
 NoTree ts = (t : FileSyntax) → IsFile ts t → ⊥
 
@@ -45,6 +46,7 @@ abbrev pub IsLarge : TokenKind → Type 0
 IsLarge (kind.Integer n) = 2147483647 < n
 IsLarge _ = ⊥
 
+-- the token is one
 abbrev pub LargeToken : List Lexeme → Lexeme → List Lexeme → Type 0
 LargeToken front t back = IsLarge t.kind
 

@@ -62,6 +62,7 @@ use Rattle.protobuf_parse_syntax.specs.declared.tree.declaration.MessageStatemen
 abbrev pub Pieces : Type 0
 Pieces = List Bytes
 
+-- the pieces of a literal in the tree
 abbrev pub pieces_of : StrLit → Pieces
 pieces_of s = map string_bytes s.pieces.items
 
@@ -75,6 +76,8 @@ pub data ConstantNameSyntax : Type 0 where
   url_name : Bytes → ConstantNameSyntax
 
 mutual
+  -- a constant: an integer; `true` or `false`; a name, as of an enum's value; a string; a list; a
+  -- message, by its fields
   pub data ConstantSyntax : Type 0 where
     integer : ℤ → ConstantSyntax
     truth : Bool → ConstantSyntax
@@ -83,26 +86,32 @@ mutual
     list : ConstantList → ConstantSyntax
     fields : ConstantFieldList → ConstantSyntax
 
+  -- constants, as a list of them
   pub data ConstantList : Type 0 where
     no_constants : ConstantList
     more_constants : ConstantSyntax → ConstantList → ConstantList
 
+  -- the fields of a message constant
   pub data ConstantFieldList : Type 0 where
     no_fields : ConstantFieldList
     more_fields : ConstantNameSyntax → ConstantSyntax → ConstantFieldList → ConstantFieldList
 
+-- a field of a message constant
 pub record ConstantFieldSyntax : Type 0 where
   pub name : ConstantNameSyntax
   pub value : ConstantSyntax
 
+-- a list as such a list
 abbrev pub constants : List ConstantSyntax → ConstantList
 constants [] = no_constants
 constants (c ∷ cs) = more_constants c (constants cs)
 
+-- fields as such a list
 abbrev pub constant_fields : List ConstantFieldSyntax → ConstantFieldList
 constant_fields [] = no_fields
 constant_fields (f ∷ fs) = more_fields f.name f.value (constant_fields fs)
 
+-- what such a name in the tree says
 abbrev pub constant_name_syntax : ConstantFieldName → ConstantNameSyntax
 constant_name_syntax (constant_name.Regular n) = regular_name (name_bytes n)
 constant_name_syntax (constant_name.Extension n) = extension_name (string_bytes n)
@@ -118,10 +127,12 @@ constant_step (ProtobufConstant-F.String s) = string (pieces_of s)
 constant_step (ProtobufConstant-F.List cs) = list (constants cs.items)
 constant_step (ProtobufConstant-F.Message fs) = fields (constant_fields fs.items)
 
+-- the same of a field
 abbrev pub constant_field_step :
     ConstantField-F ConstantSyntax ConstantFieldSyntax → ConstantFieldSyntax
 constant_field_step f = record { name = constant_name_syntax f.name; value = f.value }
 
+-- what a constant in the tree says
 abbrev pub constant_syntax : ProtobufConstant → ConstantSyntax
 constant_syntax =
     fold-ProtobufConstant ConstantSyntax ConstantFieldSyntax constant_step constant_field_step
@@ -133,49 +144,60 @@ pub data OptionPartSyntax : Type 0 where
   direct : Bytes → OptionPartSyntax
   extension : Bytes → OptionPartSyntax
 
+-- the name of an option: one direct part is built in, any other name is custom
 pub data OptionNameSyntax : Type 0 where
   builtin : Bytes → OptionNameSyntax
   custom : List OptionPartSyntax → OptionNameSyntax
 
+-- an option that is set, where its name begins
 pub record OptionSyntax : Type 0 where
   pub place : Place
   pub name : OptionNameSyntax
   pub value : ConstantSyntax
 
+-- an option as a statement, where its keyword stands
 pub record OptionStatementSyntax : Type 0 where
   pub place : Place
   pub option : OptionSyntax
 
+-- what such a part in the tree says
 abbrev pub option_part_syntax : ProtobufOptionNamePart → OptionPartSyntax
 option_part_syntax (option_part.Direct n) = direct (name_bytes n)
 option_part_syntax (option_part.Ext n) = extension (string_bytes n)
 
+-- what the name of an option in the tree says
 abbrev pub option_name_syntax : ProtobufOptionName → OptionNameSyntax
 option_name_syntax (option_name.Builtin n) = builtin (name_bytes n)
 option_name_syntax (option_name.Custom parts) = custom (map option_part_syntax parts.items)
 
+-- what an option in the tree says
 abbrev pub option_syntax : ProtobufOption → OptionSyntax
 option_syntax o =
     record { place = o.place; name = option_name_syntax o.name; value = constant_syntax o.value }
 
+-- what an option's statement in the tree says
 abbrev pub option_statement_syntax : OptionStatement → OptionStatementSyntax
 option_statement_syntax s = record { place = s.place; option = option_syntax s.option }
 
 -- ---- fields
 
+-- a type: a scalar type, a map by the types of its keys and values, or a name
 pub data TypeSyntax : Type 0 where
   scalar : Scalar → TypeSyntax
   map_of : TypeSyntax → TypeSyntax → TypeSyntax
   named : Bytes → TypeSyntax
 
+-- one level, with the types inside already seen
 abbrev pub type_step : Type-F TypeSyntax → TypeSyntax
 type_step (Type-F.Scalar s) = scalar s
 type_step (Type-F.Map k v) = map_of k.value v.value
 type_step (Type-F.Named n) = named (string_bytes n)
 
+-- what a type in the tree says
 abbrev pub type_syntax : «Type» → TypeSyntax
 type_syntax = fold-Type TypeSyntax type_step
 
+-- a field that is no group
 pub record FieldSyntax : Type 0 where
   pub place : Place
   pub label : Option Label
@@ -184,6 +206,7 @@ pub record FieldSyntax : Type 0 where
   pub number : ℤ
   pub options : List OptionSyntax
 
+-- what a field in the tree says
 abbrev pub field_syntax : Field → FieldSyntax
 field_syntax f = record {
   place = f.place;
@@ -194,20 +217,23 @@ field_syntax f = record {
   options = map option_syntax f.options.items;
 }
 
--- a statement that declares a field, or a group of fields
 mutual
+  -- a statement that declares a field, or a group of fields
   pub data FieldStatementSyntax : Type 0 where
     field : FieldSyntax → FieldStatementSyntax
     group : Place → Option Label → Bytes → ℤ → FieldStatementList → FieldStatementSyntax
 
+  -- such statements, as a list of them
   pub data FieldStatementList : Type 0 where
     no_field_statements : FieldStatementList
     more_field_statements : FieldStatementSyntax → FieldStatementList → FieldStatementList
 
+-- a list as such a list
 abbrev pub field_statements : List FieldStatementSyntax → FieldStatementList
 field_statements [] = no_field_statements
 field_statements (f ∷ fs) = more_field_statements f (field_statements fs)
 
+-- a group, by its fields
 pub record GroupSyntax : Type 0 where
   pub place : Place
   pub label : Option Label
@@ -215,9 +241,11 @@ pub record GroupSyntax : Type 0 where
   pub number : ℤ
   pub fields : List FieldStatementSyntax
 
+-- a group as a statement
 abbrev pub group_of : GroupSyntax → FieldStatementSyntax
 group_of g = group g.place g.label g.name g.number (field_statements g.fields)
 
+-- one level, with the fields inside already seen
 abbrev pub group_step : Group-F FieldStatementSyntax GroupSyntax → GroupSyntax
 group_step g = record {
   place = g.place;
@@ -227,11 +255,13 @@ group_step g = record {
   fields = g.fields.items;
 }
 
+-- the same of a statement
 abbrev pub field_statement_step :
     FieldStatement-F FieldStatementSyntax GroupSyntax → FieldStatementSyntax
 field_statement_step (FieldStatement-F.Field f) = field (field_syntax f)
 field_statement_step (FieldStatement-F.Group g) = group_of g
 
+-- what a field or a group in the tree says
 abbrev pub field_statement_syntax : FieldStatement → FieldStatementSyntax
 field_statement_syntax =
     fold-FieldStatement FieldStatementSyntax GroupSyntax field_statement_step group_step
@@ -243,65 +273,80 @@ pub record RangeSyntax : Type 0 where
   pub from : ℤ
   pub to : ℤ
 
+-- what a `reserved` statement has: ranges or names
 pub data ReservedSyntax : Type 0 where
   reserved_ranges : List RangeSyntax → ReservedSyntax
   reserved_names : List Bytes → ReservedSyntax
 
+-- a `reserved` statement
 pub record ReservedStatementSyntax : Type 0 where
   pub place : Place
   pub reserved : ReservedSyntax
 
+-- an `extensions` statement
 pub record ExtensionsSyntax : Type 0 where
   pub place : Place
   pub ranges : List RangeSyntax
 
+-- a statement of a oneof
 pub data OneofStatementSyntax : Type 0 where
   oneof_option : OptionStatementSyntax → OneofStatementSyntax
   oneof_field : FieldStatementSyntax → OneofStatementSyntax
 
+-- a oneof, by its statements
 pub record OneofSyntax : Type 0 where
   pub place : Place
   pub name : Bytes
   pub body : List OneofStatementSyntax
 
+-- an `extend`: the message that it extends, as it is named, and the extensions
 pub record ExtendSyntax : Type 0 where
   pub place : Place
   pub extendee : Bytes
   pub fields : List FieldStatementSyntax
 
+-- a value of an enum
 pub record EnumValueSyntax : Type 0 where
   pub place : Place
   pub name : Bytes
   pub number : ℤ
   pub options : List OptionSyntax
 
+-- a statement of an enum
 pub data EnumStatementSyntax : Type 0 where
   enum_reserved : ReservedStatementSyntax → EnumStatementSyntax
   enum_option : OptionStatementSyntax → EnumStatementSyntax
   enum_value : EnumValueSyntax → EnumStatementSyntax
 
+-- an enum, by its statements
 pub record EnumSyntax : Type 0 where
   pub place : Place
   pub name : Bytes
   pub body : List EnumStatementSyntax
 
+-- what a range in the tree says
 abbrev pub range_syntax : FieldNumberRange → RangeSyntax
 range_syntax r = record { from = r.from; to = r.to }
 
+-- what is reserved in the tree
 abbrev pub reserved_syntax : Reserved → ReservedSyntax
 reserved_syntax (reserved.Ranges rs) = reserved_ranges (map range_syntax rs.items)
 reserved_syntax (reserved.Names ns) = reserved_names (map string_bytes ns.items)
 
+-- what a `reserved` statement in the tree says
 abbrev pub reserved_statement_syntax : ReservedStatement → ReservedStatementSyntax
 reserved_statement_syntax r = record { place = r.place; reserved = reserved_syntax r.reserved }
 
+-- what an `extensions` statement in the tree says
 abbrev pub extensions_syntax : Extensions → ExtensionsSyntax
 extensions_syntax e = record { place = e.place; ranges = map range_syntax e.ranges.items }
 
+-- what a statement of a oneof in the tree says
 abbrev pub oneof_statement_syntax : OneOfStatement → OneofStatementSyntax
 oneof_statement_syntax (oneof_statement.Option o) = oneof_option (option_statement_syntax o)
 oneof_statement_syntax (oneof_statement.Field f) = oneof_field (field_statement_syntax f)
 
+-- what a oneof in the tree says
 abbrev pub oneof_syntax : OneOf → OneofSyntax
 oneof_syntax o = record {
   place = o.place;
@@ -309,6 +354,7 @@ oneof_syntax o = record {
   body = map oneof_statement_syntax o.body.items;
 }
 
+-- what an `extend` in the tree says
 abbrev pub extend_syntax : Extend → ExtendSyntax
 extend_syntax e = record {
   place = e.place;
@@ -316,6 +362,7 @@ extend_syntax e = record {
   fields = map field_statement_syntax e.fields.items;
 }
 
+-- what a value of an enum in the tree says
 abbrev pub value_syntax : EnumValue → EnumValueSyntax
 value_syntax v = record {
   place = v.place;
@@ -324,11 +371,13 @@ value_syntax v = record {
   options = map option_syntax v.options.items;
 }
 
+-- what a statement of an enum in the tree says
 abbrev pub enum_statement_syntax : EnumStatement → EnumStatementSyntax
 enum_statement_syntax (enum_statement.Reserved r) = enum_reserved (reserved_statement_syntax r)
 enum_statement_syntax (enum_statement.Option o) = enum_option (option_statement_syntax o)
 enum_statement_syntax (enum_statement.Value v) = enum_value (value_syntax v)
 
+-- what an enum in the tree says
 abbrev pub enum_syntax : Enumeration → EnumSyntax
 enum_syntax e = record {
   place = e.place;
@@ -339,6 +388,7 @@ enum_syntax e = record {
 -- ---- messages
 
 mutual
+  -- a statement of a message; a message inside it has its place, its name and its statements
   pub data MessageStatementSyntax : Type 0 where
     message_reserved : ReservedStatementSyntax → MessageStatementSyntax
     message_oneof : OneofSyntax → MessageStatementSyntax
@@ -349,25 +399,31 @@ mutual
     message_option : OptionStatementSyntax → MessageStatementSyntax
     message_field : FieldStatementSyntax → MessageStatementSyntax
 
+  -- such statements, as a list of them
   pub data MessageStatementList : Type 0 where
     no_statements : MessageStatementList
     more_statements : MessageStatementSyntax → MessageStatementList → MessageStatementList
 
+-- a message, by its statements
 pub record MessageSyntax : Type 0 where
   pub place : Place
   pub name : Bytes
   pub body : List MessageStatementSyntax
 
+-- a list as such a list
 abbrev pub message_statements : List MessageStatementSyntax → MessageStatementList
 message_statements [] = no_statements
 message_statements (s ∷ ss) = more_statements s (message_statements ss)
 
+-- a message as a statement of another
 abbrev pub nested_message : MessageSyntax → MessageStatementSyntax
 nested_message m = message_message m.place m.name (message_statements m.body)
 
+-- one level, with the statements inside already seen
 abbrev pub message_step : Message-F MessageStatementSyntax MessageSyntax → MessageSyntax
 message_step m = record { place = m.place; name = name_bytes m.name; body = m.body.items }
 
+-- the same of a statement
 abbrev pub message_statement_step :
     MessageStatement-F MessageStatementSyntax MessageSyntax → MessageStatementSyntax
 message_statement_step (MessageStatement-F.Reserved r) =
@@ -380,12 +436,14 @@ message_statement_step (MessageStatement-F.Extensions e) = message_extensions (e
 message_statement_step (MessageStatement-F.Option o) = message_option (option_statement_syntax o)
 message_statement_step (MessageStatement-F.Field f) = message_field (field_statement_syntax f)
 
+-- what a message in the tree says
 abbrev pub message_syntax : Message → MessageSyntax
 message_syntax = fold-Message MessageStatementSyntax MessageSyntax message_statement_step
     message_step
 
 -- ---- services
 
+-- a method: what it takes and what it returns, as it is named, and whether either is a stream
 pub record MethodSyntax : Type 0 where
   pub place : Place
   pub name : Bytes
@@ -395,15 +453,18 @@ pub record MethodSyntax : Type 0 where
   pub server_streaming : Bool
   pub options : List OptionStatementSyntax
 
+-- a statement of a service
 pub data ServiceStatementSyntax : Type 0 where
   service_method : MethodSyntax → ServiceStatementSyntax
   service_option : OptionStatementSyntax → ServiceStatementSyntax
 
+-- a service, by its statements
 pub record ServiceSyntax : Type 0 where
   pub place : Place
   pub name : Bytes
   pub body : List ServiceStatementSyntax
 
+-- what a method in the tree says
 abbrev pub method_syntax : Method → MethodSyntax
 method_syntax m = record {
   place = m.place;
@@ -415,10 +476,12 @@ method_syntax m = record {
   options = map option_statement_syntax m.options.items;
 }
 
+-- what a statement of a service in the tree says
 abbrev pub service_statement_syntax : ServiceStatement → ServiceStatementSyntax
 service_statement_syntax (service_statement.Method m) = service_method (method_syntax m)
 service_statement_syntax (service_statement.Option o) = service_option (option_statement_syntax o)
 
+-- what a service in the tree says
 abbrev pub service_syntax : Service → ServiceSyntax
 service_syntax s = record {
   place = s.place;
@@ -428,15 +491,18 @@ service_syntax s = record {
 
 -- ---- files
 
+-- an `import` statement, by the proto path of the file
 pub record ImportSyntax : Type 0 where
   pub place : Place
   pub vis : ImportVis
   pub path : Bytes
 
+-- a `package` statement
 pub record PackageSyntax : Type 0 where
   pub place : Place
   pub name : Bytes
 
+-- a statement of a file
 pub data StatementSyntax : Type 0 where
   file_import : ImportSyntax → StatementSyntax
   file_package : PackageSyntax → StatementSyntax
@@ -446,16 +512,20 @@ pub data StatementSyntax : Type 0 where
   file_extend : ExtendSyntax → StatementSyntax
   file_service : ServiceSyntax → StatementSyntax
 
+-- a file: whether it is proto2 or proto3, and its statements in source order
 pub record FileSyntax : Type 0 where
   pub syntax : Syntax
   pub statements : List StatementSyntax
 
+-- what an `import` in the tree says
 abbrev pub import_syntax : Import → ImportSyntax
 import_syntax i = record { place = i.place; vis = i.vis; path = path_buf_text i.path }
 
+-- what a `package` in the tree says
 abbrev pub package_syntax : Package → PackageSyntax
 package_syntax p = record { place = p.place; name = string_bytes p.name }
 
+-- what a statement in the tree says
 abbrev pub statement_syntax : FileStatement → StatementSyntax
 statement_syntax (file_statement.Import i) = file_import (import_syntax i)
 statement_syntax (file_statement.Package p) = file_package (package_syntax p)
@@ -465,6 +535,7 @@ statement_syntax (file_statement.Enumeration e) = file_enum (enum_syntax e)
 statement_syntax (file_statement.Extend e) = file_extend (extend_syntax e)
 statement_syntax (file_statement.Service s) = file_service (service_syntax s)
 
+-- what a tree says
 abbrev pub file_syntax : FileTree → FileSyntax
 file_syntax t = record { syntax = t.syntax; statements = map statement_syntax t.statements.items }
 

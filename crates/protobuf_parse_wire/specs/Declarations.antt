@@ -30,6 +30,7 @@ abbrev mutual
       record { name = name_within scope parts.name; parts = parts }
       ∷ declared_messages (name_within scope parts.name) nested
 
+  -- of messages that stand side by side
   pub declared_messages : Text → MessageDescriptors → List Declaration
   declared_messages scope no_messages = []
   declared_messages scope (messages m ms) = declared_message scope m ++ declared_messages scope ms
@@ -39,6 +40,7 @@ abbrev pub package_scope : Option Text → Text
 package_scope None = []
 package_scope (Some name) = name_within [] name
 
+-- the messages of a file, each before those inside it
 abbrev pub messages_declared_in : FileDescriptor → List Declaration
 messages_declared_in file =
     flat_map (declared_message (package_scope file.«package»)) file.message_type
@@ -55,6 +57,7 @@ declared_extensions file =
     (messages_declared_in file)
     ++ extensions_within (package_scope file.«package») file.extension
 
+-- the extensions of a file
 abbrev pub extensions_declared_in : FileDescriptor → List FieldDescriptor
 extensions_declared_in file =
     map (λ (e : Declared FieldDescriptor). e.what) (declared_extensions file)
@@ -71,6 +74,7 @@ extends name extension = option_map_or (bytes_eq name) extension.extendee false
 abbrev pub messages_with_name : List FileDescriptor → Text → List MessageParts
 messages_with_name files name = messages_named name (flat_map messages_declared_in files)
 
+-- the extensions of the message of that full name
 abbrev pub extensions_extending : List FileDescriptor → Text → List FieldDescriptor
 extensions_extending files name = filter (extends name) (flat_map extensions_declared_in files)
 

@@ -121,5 +121,6 @@ fits text v = false
 fits octets v = false
 fits message v = false
 
+-- a field of that kind can hold the number
 abbrev pub InRange : KindShape → ℤ → Type 0
 InRange s v = IsTrue (fits s v)

@@ -21,6 +21,7 @@ abbrev mutual
   said no_entries = []
   said (entry n k v others) = record { number = n; value = value_said v } ∷ said others
 
+  -- the value of an entry
   pub value_said : EntryTree → ValueTree
   value_said (trees.number v) = trees.number v
   value_said (trees.truth b) = trees.truth b
@@ -33,6 +34,7 @@ abbrev mutual
   depth no_entries = 1
   depth (entry n k v others) = max (value_depth v + 1) (depth others)
 
+  -- of the messages in a value
   pub value_depth : EntryTree → ℕ
   value_depth (trees.number v) = 0
   value_depth (trees.truth b) = 0
@@ -72,6 +74,7 @@ abbrev mutual
   Suit files fields (entry n k v others) = (f : FieldDescriptor) × IsFieldAmong fields n k f
       × ValueSuits files f (shape_of_kind k) v × Suit files fields others
 
+  -- The value is one of such a kind; a message is one of the field's type.
   pub ValueSuits : List FileDescriptor → FieldDescriptor → KindShape → EntryTree → Type 0
   ValueSuits files f s (trees.number v) = InRange s v
   ValueSuits files f s (trees.truth b) = Unit {0}

@@ -32,6 +32,7 @@ abbrev pub WireRead : Type 0 → Type 0
 WireRead X = Result X ReadFault
 
 infixl 10 ◌>>=◌
+-- the next step, where this one gave something
 abbrev pub ◌>>=◌ : {A B : Type 0} → WireRead A → (A → WireRead B) → WireRead B
 (Ok x) >>= f = f x
 (Err e) >>= f = Err e
@@ -65,16 +66,19 @@ delimited_at bs = do
   n ← varint_at 10 bs
   part_at n.0 n.1
 
+-- a number in eight bytes, the lowest first, and the bytes after it
 unfoldable pub eight_at : List ℕ → WireRead (ℕ × List ℕ)
 eight_at bs = do
   part ← part_at 8 bs
   Ok (from_le_bytes w64 part.0, part.1)
 
+-- a number in four bytes, and the bytes after it
 unfoldable pub four_at : List ℕ → WireRead (ℕ × List ℕ)
 four_at bs = do
   part ← part_at 4 bs
   Ok (from_le_bytes w32 part.0, part.1)
 
+-- a number where it stands for such a kind, and the bytes after it
 abbrev pub word_at : Word → List ℕ → WireRead (ℕ × List ℕ)
 word_at varint bs = varint_at 10 bs
 word_at eight_bytes bs = eight_at bs

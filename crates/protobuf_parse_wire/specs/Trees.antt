@@ -3,6 +3,8 @@ use Rattle.std.specs.Prelude.{ℕ, ℤ, Bool, List, [], ◌∷◌}
 use Rattle.protobuf_parse_wire.specs.declared.kind.Kind.{Kind}
 
 mutual
+  -- a value that is written: a number, a truth value, the bytes of a text or of bytes, or a
+  -- message
   pub data EntryTree : Type 0 where
     number : ℤ → EntryTree
     truth : Bool → EntryTree
@@ -15,6 +17,7 @@ mutual
     entry : ℕ → Kind → EntryTree → Entries → Entries
 
 mutual
+  -- a value that was read
   pub data ValueTree : Type 0 where
     number : ℤ → ValueTree
     truth : Bool → ValueTree
@@ -31,6 +34,7 @@ pub record Field : Type 0 where
   pub number : ℕ
   pub value : ValueTree
 
+-- a list as such fields
 abbrev pub fields_of_list : List Field → Fields
 fields_of_list [] = no_fields
 fields_of_list (f ∷ fs) = field f.number f.value (fields_of_list fs)

@@ -73,6 +73,7 @@ SaysWord varint u bs = IsVarint bs u
 SaysWord eight_bytes u bs = bs ≡ to_le_bytes w64 u
 SaysWord four_bytes u bs = bs ≡ to_le_bytes w32 u
 
+-- The bytes are the number as such a kind has it; others have no whole numbers.
 abbrev pub SaysNumber : KindShape → ℤ → List ℕ → Type 0
 SaysNumber (whole word w code) v bs = (u : ℕ) × IsCode word code v u × SaysWord word u bs
 SaysNumber truth v bs = ⊥
@@ -80,6 +81,7 @@ SaysNumber text v bs = ⊥
 SaysNumber octets v bs = ⊥
 SaysNumber message v bs = ⊥
 
+-- The bytes are the truth value, as 0 or 1, where the kind has such.
 abbrev pub SaysTruth : KindShape → Bool → List ℕ → Type 0
 SaysTruth truth b bs = IsVarint bs (if b then 1 else 0)
 SaysTruth (whole word w code) b bs = ⊥
@@ -95,6 +97,7 @@ pub record SaysDelimited (inside bs : List ℕ) : Type 0 where
   pub parts : bs ≡ front ++ inside
   pub length_first : IsVarint front (length inside)
 
+-- such a kind's values are texts or bytes
 abbrev pub HasBytes : KindShape → Type 0
 HasBytes text = Unit {0}
 HasBytes octets = Unit {0}
@@ -102,6 +105,7 @@ HasBytes (whole word w code) = ⊥
 HasBytes truth = ⊥
 HasBytes message = ⊥
 
+-- such a kind's values are messages
 abbrev pub HasMessages : KindShape → Type 0
 HasMessages message = Unit {0}
 HasMessages (whole word w code) = ⊥

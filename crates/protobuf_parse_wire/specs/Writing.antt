@@ -6,6 +6,7 @@ use Rattle.protobuf_parse_wire.specs.Trees as trees
 use Rattle.protobuf_parse_wire.specs.Trees.{EntryTree, Entries, no_entries, entry}
 use Rattle.protobuf_parse_wire.specs.Wire.{HasBytes, HasMessages}
 
+-- such a kind's values are truth values
 abbrev pub HasTruth : KindShape → Type 0
 HasTruth truth = Unit {0}
 HasTruth (whole word w code) = ⊥
@@ -19,6 +20,7 @@ abbrev mutual
   AreWritable no_entries = Unit {0}
   AreWritable (entry n k v others) = IsWritable (shape_of_kind k) v × AreWritable others
 
+  -- The value is one of such a kind, and whole numbers are in its range.
   pub IsWritable : KindShape → EntryTree → Type 0
   IsWritable s (trees.number v) = InRange s v
   IsWritable s (trees.truth b) = HasTruth s
