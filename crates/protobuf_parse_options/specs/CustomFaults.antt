@@ -44,6 +44,7 @@ use Rattle.protobuf_parse_options.specs.CustomOptions.{scope_of}
 
 -- ---- names as they are written
 
+-- a name in brackets, as in constants for messages
 abbrev pub bracketed : Text → Text
 bracketed name = codes "[" ++ name ++ codes "]"
 
@@ -60,6 +61,7 @@ integer_faults name (integers k) z =
     fault_when (not (fits (shape_of_kind k) z)) IntegerOutOfRange name
 integer_faults name other z = not_taken name other
 
+-- of `true` or `false`
 abbrev pub truth_faults : Text → Takes → List Wrong
 truth_faults name truths = []
 truth_faults name other = not_taken name other
@@ -125,11 +127,13 @@ abbrev mutual
   constant_faults at option f (fields fs) =
       message_value_faults f.name (type_takes f.type_) (member_faults at option (type_name_of f) fs)
 
+  -- of each item of a list
   pub list_faults : OptionScope → Text → FieldDescriptor → ConstantList → List Wrong
   list_faults at option f no_constants = []
   list_faults at option f (more_constants c cs) =
       constant_faults at option f c ++ list_faults at option f cs
 
+  -- of each field of a constant for that message
   pub member_faults : OptionScope → Text → Text → ConstantFieldList → List Wrong
   member_faults at option message no_fields = []
   member_faults at option message (more_fields name c fs) =
@@ -140,6 +144,7 @@ abbrev mutual
 
 -- ---- names
 
+-- of a part of an option's name, which means a field of the message
 abbrev pub part_faults : OptionScope → Text → OptionPartSyntax → List Wrong
 part_faults at message (direct name) = field_name_faults at message name
 part_faults at message (extension name) =
@@ -174,6 +179,7 @@ builtin_step_faults table name =
     else (if stands_in name (option_names_in table) then fault ExtensionIsNotMessage name
     else fault UnknownFieldName name)
 
+-- of a name by its parts: it begins at the options message of the construct
 abbrev pub custom_faults : OptionScope → Construct → ConstantSyntax → List OptionPartSyntax
     → List Wrong
 custom_faults at construct value [] = []
@@ -182,6 +188,7 @@ custom_faults at construct value (extension name ∷ ps) =
     path_faults at (option_path_text (extension name ∷ ps)) value (options_message construct)
     (extension name ∷ ps)
 
+-- of an option, where it is custom
 abbrev pub custom_name_faults : OptionScope → Construct → ConstantSyntax → OptionNameSyntax
     → List Wrong
 custom_name_faults at construct value (builtin name) = []
@@ -199,9 +206,11 @@ abbrev pub option_faults_at : OptionScope → Construct → OptionSyntax → Lis
 option_faults_at at construct o =
     placed o.place (first_of (custom_name_faults at construct o.value o.name))
 
+-- of several statements
 abbrev pub custom_statement_faults : OptionScope → Construct → List OptionSyntax → List Fault
 custom_statement_faults at construct os = flat_map (option_faults_at at construct) os
 
+-- of all sets of options of a file
 abbrev pub custom_option_faults : (files visible : List FileDescriptor) → FileSyntax → List Fault
 custom_option_faults files visible t =
     flat_map

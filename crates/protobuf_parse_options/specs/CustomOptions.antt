@@ -34,6 +34,7 @@ abbrev pub item_of : FieldDescriptor → EntryTree → List WireItem
 item_of f value = map (λ (k : Kind). record { number = nat_abs f.number; kind = k; value = value })
     (option_to_list (kind_of_field_type f.type_))
 
+-- a message under the number of the field
 abbrev pub item_of_message : FieldDescriptor → List WireItem → List WireItem
 item_of_message f inside = item_of f (trees.message (entries_of_list inside))
 
@@ -49,6 +50,7 @@ abbrev mutual
   value_items at f (list cs) = list_items at f cs
   value_items at f (fields fs) = item_of_message f (field_items at (type_name_of f) fs)
 
+  -- what the items of a list give, one by one
   pub list_items : OptionScope → FieldDescriptor → ConstantList → List WireItem
   list_items at f no_constants = []
   list_items at f (more_constants c cs) = value_items at f c ++ list_items at f cs
@@ -72,10 +74,12 @@ path_items at value message (p ∷ q ∷ ps) =
     (λ (g : FieldDescriptor). item_of_message g (path_items at value (type_name_of g) (q ∷ ps)))
     (option_to_list (part_field at message p))
 
+-- what an option gives, where it is custom
 abbrev pub named_items : OptionScope → Text → ConstantSyntax → OptionNameSyntax → List WireItem
 named_items at message value (builtin name) = []
 named_items at message value (custom parts) = path_items at value message parts
 
+-- from the options message of its construct on
 abbrev pub items_of_option : OptionScope → Construct → OptionSyntax → List WireItem
 items_of_option at construct o = named_items at (options_message construct) o.value o.name
 

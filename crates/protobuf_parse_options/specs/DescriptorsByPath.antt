@@ -18,6 +18,7 @@ use Rattle.protobuf_parse_options.specs.NamesAlike.{HasPackageName}
 abbrev pub Environments : Type 0
 Environments = Text → FileSyntax → Environment
 
+-- the descriptor of the file at that path with that tree
 abbrev pub described_at : Environments → Text → FileSyntax → FileDescriptor
 described_at env path t = file_of (env path t) path t
 
@@ -35,6 +36,7 @@ pub record HasFileScopes (trees : Trees) (env : Environments) : Type 0 where
 abbrev pub HaveSameMembers : (paths paths' : List Text) → Type 0
 HaveSameMembers paths paths' = (p : Text) → among p paths ≡ among p paths'
 
+-- each of the paths is one of the others
 abbrev pub AreWithin : (paths others : List Text) → Type 0
 AreWithin paths others = (p : Text) → among p paths ≡ true → among p others ≡ true
 

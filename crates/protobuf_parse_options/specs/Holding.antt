@@ -28,6 +28,7 @@ pub record SpotView : Type 0 where
   pub index : ℕ
   pub position : Text → Option ℕ
 
+-- what the Rust value says
 abbrev pub spot_view : Spot → SpotView
 spot_view p = record {
   file = p.file;
@@ -38,9 +39,11 @@ spot_view p = record {
 
 -- ---- under names
 
+-- those that are kept under a name
 abbrev pub spots_under : BTreeMap (String Global) (Vec Spot) → Text → List SpotView
 spots_under spots name = map spot_view (values_under spots name)
 
+-- a spot with the positions of its parts, in the file with this number
 abbrev pub spot_in : {T : Type 0} → (T → List Text) → ℕ → SpottedView T → SpotView
 spot_in parts file p = record {
   file = file;
@@ -76,12 +79,15 @@ pub record Holds (spots : Spots) (files : List FileDescriptor) : Type 0 where
 
 -- ---- the files that are picked
 
+-- a descriptor that is lent
 abbrev pub file_seen : Bor FileDescriptorProto → FileDescriptor
 file_seen f = file_view f.now
 
+-- those under the numbers that are picked; a number may have none
 abbrev pub files_under : PickedFiles → List (Option FileDescriptor)
 files_under picked = map (option_map file_seen) picked.files.now
 
+-- the descriptors that are picked, without where they lie in memory
 abbrev pub files_seen : PickedFiles → List FileDescriptor
 files_seen picked = flat_map option_to_list (files_under picked)
 

@@ -16,10 +16,12 @@ abbrev pub bytes_unless : List Fault → List ℕ → List ℕ
 bytes_unless [] bytes = bytes
 bytes_unless (f ∷ fs) bytes = []
 
+-- what the statements of a construct become
 abbrev pub spelled_at : OptionScope → Construct → List OptionSyntax → List ℕ
 spelled_at at construct os =
     bytes_unless (custom_statement_faults at construct os) (encoded (denotes at construct os))
 
+-- the same as it is asked for, by construct and scope
 abbrev pub option_bytes : (files visible : List FileDescriptor) → CustomBytes
 option_bytes files visible = λ construct scope os.
     spelled_at (record { files = files; visible = visible; scope = scope }) construct os

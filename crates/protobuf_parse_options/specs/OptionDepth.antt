@@ -21,14 +21,17 @@ abbrev mutual
   message_levels (fields fs) = suc (field_levels fs)
   message_levels _ = 0
 
+  -- of the items of a list
   pub list_levels : ConstantList → ℕ
   list_levels no_constants = 0
   list_levels (more_constants c cs) = max (message_levels c) (list_levels cs)
 
+  -- of the fields of a message constant
   pub field_levels : ConstantFieldList → ℕ
   field_levels no_fields = 0
   field_levels (more_fields name c fs) = max (message_levels c) (field_levels fs)
 
+-- the parts of a custom option's name
 abbrev pub name_parts : OptionNameSyntax → List OptionPartSyntax
 name_parts (builtin name) = []
 name_parts (custom parts) = parts

@@ -28,9 +28,11 @@ use Rattle.protobuf_parse_wire.specs.Declarations.{declared_extensions, messages
 
 -- ---- what files declare, by their descriptors
 
+-- an enum of the scope, by its full name
 abbrev pub enum_in : Text → EnumDescriptor → Declared EnumDescriptor
 enum_in scope e = record { name = name_within scope e.name; what = e }
 
+-- the enums of a file: those inside messages, and those of the file
 abbrev pub declared_enums : FileDescriptor → List (Declared EnumDescriptor)
 declared_enums file = flat_map (λ (d : Declaration). map (enum_in d.name) d.parts.enum_type)
     (messages_declared_in file) ++ map (enum_in (package_scope file.«package»)) file.enum_type
@@ -40,6 +42,7 @@ abbrev pub fields_of_message : List FileDescriptor → Text → List FieldDescri
 fields_of_message files message =
     flat_map (λ (parts : MessageParts). parts.field) (messages_with_name files message)
 
+-- the field of that name in the message of that full name
 abbrev pub field_named : List FileDescriptor → Text → Text → Option FieldDescriptor
 field_named files message name =
     find (λ (f : FieldDescriptor). bytes_eq f.name name) (fields_of_message files message)
@@ -66,6 +69,7 @@ pub record OptionScope : Type 0 where
   pub visible : List FileDescriptor
   pub scope : Scope
 
+-- the options messages of google/protobuf/descriptor.proto
 abbrev pub options_message : Construct → Text
 options_message of.File = codes ".google.protobuf.FileOptions"
 options_message of.Message = codes ".google.protobuf.MessageOptions"
@@ -96,6 +100,7 @@ if_extends files message None = None
 if_extends files message (Some d) =
     if extends_message files message d.what then Some d.what else None
 
+-- the extension that a name means, if it extends the message
 abbrev pub extension_named : OptionScope → Text → Text → Option FieldDescriptor
 extension_named at message name = if_extends at.files message (extension_meant at name)
 
@@ -116,6 +121,8 @@ type_name_of f = unwrap_or f.type_name []
 
 -- ---- what a field takes
 
+-- the values that may be given to a field: integers of a kind, truth values, names of an enum's
+-- values, strings that are texts or bytes, message constants; none to floats and groups
 pub data Takes : Type 0 where
   integers : Kind → Takes
   truths : Takes

@@ -22,17 +22,18 @@ abbrev pub kept_position : List Text → Text → Option ℕ
 kept_position names name =
     if nat_lt most_walked (length names) then position_from 0 names name else None
 
+-- the name of an enum's value
 abbrev pub name_of_value : EnumValueDescriptor → Text
 name_of_value v = v.name
 
+-- the names of a message's fields
 abbrev pub field_names : MessageDescriptor → List Text
 field_names m = map field_name (parts_seen m).field
 
+-- the names of an enum's values
 abbrev pub value_names : EnumDescriptor → List Text
 value_names e = map name_of_value e.value
 
 -- An extension has no parts.
 abbrev pub extension_parts : FieldDescriptor → List Text
 extension_parts f = []
-
--- ---- found by positions

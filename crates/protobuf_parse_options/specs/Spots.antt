@@ -14,6 +14,7 @@ pub record Inside : Type 0 where
   pub enums : List EnumDescriptor
   pub extensions : List FieldDescriptor
 
+-- what stands in a message
 abbrev pub inside_message : MessageDescriptor → Inside
 inside_message (a_message parts nested) = record {
   messages = messages_list nested;
@@ -21,6 +22,7 @@ inside_message (a_message parts nested) = record {
   extensions = parts.extension;
 }
 
+-- what stands in a file, in no message
 abbrev pub inside_file : FileDescriptor → Inside
 inside_file file = record {
   messages = file.message_type;
@@ -62,6 +64,7 @@ abbrev mutual
       }
       ∷ spotted_nested (name_within scope parts.name) (path ++ index ∷ []) 0 nested
 
+  -- of messages that stand side by side
   pub spotted_nested : Text → List ℕ → ℕ → MessageDescriptors → List (SpottedView MessageDescriptor)
   spotted_nested scope path index no_messages = []
   spotted_nested scope path index (messages m ms) = spotted_message scope path index m
@@ -74,6 +77,7 @@ spotted_list scope path index [] = []
 spotted_list scope path index (m ∷ ms) = spotted_message scope path index m
     ++ spotted_list scope path (suc index) ms
 
+-- the messages of a file, each before those inside it
 abbrev pub spotted_messages : FileDescriptor → List (SpottedView MessageDescriptor)
 spotted_messages file = spotted_list (package_scope file.«package») [] 0 file.message_type
 
@@ -91,20 +95,26 @@ spotted_in name_of list file = spotted_inside name_of list (spotted_messages fil
     ++ spotted_each name_of
     (package_scope file.«package») [] 0 (list (inside_file file))
 
+-- the name of an enum
 abbrev pub enum_name : EnumDescriptor → Text
 enum_name e = e.name
 
+-- the name of a field or an extension
 abbrev pub field_name : FieldDescriptor → Text
 field_name f = f.name
 
+-- the enums of what stands there
 abbrev pub enums_inside : Inside → List EnumDescriptor
 enums_inside inside = inside.enums
 
+-- and its extensions
 abbrev pub extensions_inside : Inside → List FieldDescriptor
 extensions_inside inside = inside.extensions
 
+-- the enums of a file
 abbrev pub spotted_enums : FileDescriptor → List (SpottedView EnumDescriptor)
 spotted_enums file = spotted_in enum_name enums_inside file
 
+-- the extensions of a file
 abbrev pub spotted_extensions : FileDescriptor → List (SpottedView FieldDescriptor)
 spotted_extensions file = spotted_in field_name extensions_inside file

@@ -26,18 +26,23 @@ use Rattle.protobuf_parse_options.specs.Recovery.{HaveDistinctNumbers}
 
 -- ---- descriptors without their options, and without those of what stands in them
 
+-- a field or an extension
 abbrev pub bare_field : FieldDescriptor → FieldDescriptor
 bare_field f = record f { options = None }
 
+-- a oneof
 abbrev pub bare_oneof : OneofDescriptor → OneofDescriptor
 bare_oneof o = record o { options = None }
 
+-- a value of an enum
 abbrev pub bare_value : EnumValueDescriptor → EnumValueDescriptor
 bare_value v = record v { options = None }
 
+-- an enum with its values
 abbrev pub bare_enum : EnumDescriptor → EnumDescriptor
 bare_enum e = record e { value = map bare_value e.value; options = None }
 
+-- what stands in a message, but for the messages
 abbrev pub bare_parts : MessageParts → MessageParts
 bare_parts m = record m {
   field = map bare_field m.field;
@@ -48,19 +53,24 @@ bare_parts m = record m {
 }
 
 abbrev mutual
+  -- a message with those inside it
   pub bare_message : MessageDescriptor → MessageDescriptor
   bare_message (a_message parts nested) = a_message (bare_parts parts) (bare_messages nested)
 
+  -- messages that stand side by side
   pub bare_messages : MessageDescriptors → MessageDescriptors
   bare_messages no_messages = no_messages
   bare_messages (messages m ms) = messages (bare_message m) (bare_messages ms)
 
+-- a method
 abbrev pub bare_method : MethodDescriptor → MethodDescriptor
 bare_method m = record m { options = None }
 
+-- a service with its methods
 abbrev pub bare_service : ServiceDescriptor → ServiceDescriptor
 bare_service s = record s { method = map bare_method s.method; options = None }
 
+-- a file with all that stands in it
 abbrev pub bare_file : FileDescriptor → FileDescriptor
 bare_file file = record file {
   message_type = map bare_message file.message_type;

@@ -24,6 +24,7 @@ pub record Spelled : Type 0 where
   pub name : Text
   pub number : ℤ
 
+-- what such a name in the scope claims
 abbrev pub spelled_claim : (file scope : Text) → Spelled → Claim
 spelled_claim file scope s = record {
   thing = record { number = pos 0; name = s.key; scope = [] };
@@ -35,9 +36,11 @@ spelled_claim file scope s = record {
   };
 }
 
+-- in ASCII lower case
 abbrev pub lower : List ℕ → List ℕ
 lower cs = map to_ascii_lowercase cs
 
+-- any character but the underscore
 abbrev pub is_letter : ℕ → Bool
 is_letter c = not (c == char.underscore)
 
@@ -47,15 +50,17 @@ squeezed name = lower (filter is_letter (chars name))
 
 -- ---- fields
 
+-- how the name of a field is compared
 abbrev pub spelled_field : FieldDescriptor → Spelled
 spelled_field f =
     record { key = encode_utf8_all (squeezed f.name); name = f.name; number = f.number }
 
--- the name is another field's but for case and underscores
+-- C47: the name is another field's but for case and underscores
 abbrev pub field_alike_rule : Rules
 field_alike_rule c other =
     Some (record { rule = rule.JsonNamesAlike; name = None; by = Some other.name })
 
+-- C47 at each field of a message of proto3
 abbrev pub fields_alike : BodyParts → List Breach
 fields_alike p = if p.proto3 then conflicts field_alike_rule []
     (map (spelled_claim p.file p.scope) (map spelled_field (fields_of p.content))) else []
@@ -83,6 +88,7 @@ without_front front cs = or_else (behind front cs) cs
 abbrev pub words : List ℕ → Text
 words cs = camel_case_text (encode_utf8_all (lower cs))
 
+-- how the name of a value is compared, where the enum's name is the front
 abbrev pub spelled_value : (front : List ℕ) → EnumValueDescriptor → Spelled
 spelled_value front v = record {
   key = words (without_front front (chars v.name));
@@ -90,7 +96,7 @@ spelled_value front v = record {
   number = v.number;
 }
 
--- the name is another value's, of another number
+-- C46, and C52 in proto2: the name is another value's, of another number
 abbrev pub value_alike_rule : (proto3 : Bool) → Rules
 value_alike_rule proto3 c other = if int_eq c.who.number other.number then None else Some (record {
   rule = if proto3 then rule.ValueNamesAlike else rule.ValueNamesAlikeProto2;
@@ -98,6 +104,7 @@ value_alike_rule proto3 c other = if int_eq c.who.number other.number then None 
   by = Some other.name;
 })
 
+-- C46 or C52 at each value of an enum
 abbrev pub values_alike : BodyParts → EnumDescriptor → List Breach
 values_alike p e = conflicts (value_alike_rule p.proto3) []
     (map (spelled_claim p.file p.scope) (map (spelled_value (squeezed e.name)) e.value))

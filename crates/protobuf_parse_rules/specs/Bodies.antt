@@ -22,30 +22,37 @@ pub record BodyParts : Type 0 where
   pub scope : Text
   pub content : Content
 
+-- the fields of a message
 abbrev pub fields_of : Content → List FieldDescriptor
 fields_of (of_message m) = m.field
 fields_of (of_file f) = []
 
+-- the extensions that stand there
 abbrev pub extensions_of : Content → List FieldDescriptor
 extensions_of (of_message m) = m.extension
 extensions_of (of_file f) = f.extension
 
+-- the enums that stand there
 abbrev pub enums_of : Content → List EnumDescriptor
 enums_of (of_message m) = m.enum_type
 enums_of (of_file f) = f.enum_type
 
+-- the ranges that a message keeps for extensions
 abbrev pub extension_ranges : Content → List Range
 extension_ranges (of_message m) = m.extension_range
 extension_ranges (of_file f) = []
 
+-- the ranges of numbers that a message reserves
 abbrev pub reserved_ranges : Content → List Range
 reserved_ranges (of_message m) = m.reserved_range
 reserved_ranges (of_file f) = []
 
+-- the names that a message reserves
 abbrev pub reserved_names : Content → List Text
 reserved_names (of_message m) = m.reserved_name
 reserved_names (of_file f) = []
 
+-- the services of a file
 abbrev pub services_of : Content → List ServiceDescriptor
 services_of (of_message m) = []
 services_of (of_file f) = f.service
@@ -55,9 +62,11 @@ abbrev pub imports_of : Content → List Text
 imports_of (of_message m) = []
 imports_of (of_file f) = f.dependency
 
+-- the proto path of a file
 abbrev pub file_path : FileDescriptor → Text
 file_path file = unwrap_or file.name []
 
+-- whether a file is one of proto3
 abbrev pub is_proto3 : FileDescriptor → Bool
 is_proto3 file = bytes_eq (unwrap_or file.syntax []) (codes "proto3")
 
@@ -85,10 +94,12 @@ bodies_in file =
     map (message_body (file_path file) (is_proto3 file)) (messages_declared_in file)
     ++ outer_body file ∷ []
 
+-- what the Rust value says
 abbrev pub content_view : Holds → Content
 content_view (holds.Message m) = of_message (message_parts m.now)
 content_view (holds.File f) = of_file (file_view f.now)
 
+-- what the Rust value says
 abbrev pub body_view : Body → BodyParts
 body_view b = record {
   file = b.file.now;

@@ -21,10 +21,12 @@ pub record Who : Type 0 where
   pub number : ℤ
   pub kind : Option NamedKind
 
+-- that a construct has the thing
 pub record Claim : Type 0 where
   pub thing : Thing
   pub who : Who
 
+-- whether both are one
 abbrev pub same_thing : Thing → Thing → Bool
 same_thing a b = (int_eq a.number b.number && bytes_eq a.name b.name) && bytes_eq a.scope b.scope
 
@@ -36,10 +38,12 @@ first_claim claims thing = find (λ (c : Claim). same_thing c.thing thing) claim
 abbrev pub Rules : Type 0
 Rules = Claim → Who → Option Broken
 
+-- a claim of what another one has
 abbrev pub taken : Rules → Claim → Who → List Breach
 taken rules c other =
     breaches_at (record { file = c.who.file; construct = c.who.name }) (rules c other ∷ [])
 
+-- a claim, where the first claim of the same is given
 abbrev pub conflict : Rules → Claim → Option Claim → List Breach
 conflict rules c None = []
 conflict rules c (Some first) = taken rules c first.who
@@ -49,5 +53,3 @@ abbrev pub conflicts : Rules → (before : List Claim) → List Claim → List B
 conflicts rules before [] = []
 conflicts rules before (c ∷ cs) =
     conflict rules c (first_claim before c.thing) ++ conflicts rules (before ++ c ∷ []) cs
-
--- ---- the claims so far as a map

@@ -4,6 +4,7 @@ use Rattle.protobuf_parse_model.specs.Descriptors.{Text}
 use Rattle.protobuf_parse_rules.specs.declared.rule.Rule.{Rule}
 use Rattle.protobuf_parse_rules.specs.declared.rule.Rule.TheVariants as rule
 
+-- the code by which a rule is told
 abbrev pub code_of : Rule → Text
 code_of (rule.NumberInUse number) = codes "C1"
 code_of (rule.NumberNotPositive number) = codes "C2"
@@ -58,6 +59,7 @@ code_of rule.LiteExtension = codes "C50"
 code_of rule.LiteService = codes "C51"
 code_of rule.ValueNamesAlikeProto2 = codes "C52"
 
+-- protoc warns of these and goes on; of all else it makes an error
 abbrev pub is_warning : Rule → Bool
 is_warning rule.JsonNameInUseProto2 = true
 is_warning rule.ImportUnused = true

@@ -12,16 +12,20 @@ use Rattle.protobuf_parse_model.specs.Options.{MessageOptionValues, MethodOption
 use Rattle.protobuf_parse_model.specs.Options.{OneofOptionValues, ServiceOptionValues}
 use Rattle.protobuf_parse_rules.specs.Bodies.{Content, of_file, of_message}
 
+-- whether a list has elements
 abbrev pub are_any : {X : Type 0} → List X → Bool
 are_any [] = false
 are_any (x ∷ xs) = true
 
+-- a field or an extension
 abbrev pub field_sets : FieldDescriptor → Bool
 field_sets f = option_map_or (λ (o : FieldOptionValues). are_any o.custom) f.options false
 
+-- a oneof
 abbrev pub oneof_sets : OneofDescriptor → Bool
 oneof_sets o = option_map_or (λ (v : OneofOptionValues). are_any v.custom) o.options false
 
+-- a value of an enum
 abbrev pub value_sets : EnumValueDescriptor → Bool
 value_sets v = option_map_or (λ (o : EnumValueOptionValues). are_any o.custom) v.options false
 
@@ -33,6 +37,7 @@ enum_itself_sets e = option_map_or (λ (o : EnumOptionValues). are_any o.custom)
 abbrev pub enum_sets : EnumDescriptor → Bool
 enum_sets e = enum_itself_sets e || list_any value_sets e.value
 
+-- a method
 abbrev pub method_sets : MethodDescriptor → Bool
 method_sets m = option_map_or (λ (o : MethodOptionValues). are_any o.custom) m.options false
 
@@ -69,6 +74,7 @@ file_sets f = file_itself_sets f
     || (list_any service_sets f.service
     || list_any field_sets f.extension))
 
+-- a message or what stands in it, or a file or what stands in it, but for messages
 abbrev pub sets_custom : Content → Bool
 sets_custom (of_message m) = message_sets m
 sets_custom (of_file f) = file_sets f

@@ -11,6 +11,7 @@ use Rattle.protobuf_parse_rules.specs.NumberTexts.{is_digits, is_unsigned_number
 use Rattle.protobuf_parse_rules.specs.Rules.{Broken, broken, broken_by}
 use Rattle.protobuf_parse_rules.specs.declared.rule.Rule.TheVariants as rule
 
+-- C24 for any other text than `true` and `false`
 abbrev pub truth_default : Text → Option Broken
 truth_default text = if bytes_eq text (codes "true") || bytes_eq text (codes "false") then None
     else Some (broken_by rule.DefaultNotBool text)
@@ -25,25 +26,32 @@ abbrev pub negative_default : (least : Option ℕ) → (text digits : Text) → 
 negative_default None text digits = Some (broken_by rule.DefaultNegative text)
 negative_default (Some least) text digits = out_of_range least text digits
 
+-- C42 for what is no integer; C43 for one that is too large or too far below 0, and C44 for a
+-- negative one where the type has none
 abbrev pub integer_default : (least : Option ℕ) → (most : ℕ) → Text → Option Broken
 integer_default least most text =
     if not (is_digits (without_minus text)) then Some (broken_by rule.DefaultNotNumber text)
     else if starts_with_minus text then negative_default least text (without_minus text)
     else out_of_range most text (without_minus text)
 
+-- C42 for what is no number
 abbrev pub number_default : Text → Option Broken
 number_default text = if is_unsigned_number (without_minus text) then None
     else Some (broken_by rule.DefaultNotNumber text)
 
+-- an integer of 32 bits with its sign
 abbrev pub signed_32 : Text → Option Broken
 signed_32 text = integer_default (Some 2147483648) 2147483647 text
 
+-- one of 64 bits
 abbrev pub signed_64 : Text → Option Broken
 signed_64 text = integer_default (Some 9223372036854775808) 9223372036854775807 text
 
+-- an integer of 32 bits that isn't negative
 abbrev pub unsigned_32 : Text → Option Broken
 unsigned_32 text = integer_default None 4294967295 text
 
+-- one of 64 bits
 abbrev pub unsigned_64 : Text → Option Broken
 unsigned_64 text = integer_default None 18446744073709551615 text
 
@@ -66,6 +74,7 @@ typed_default kind.Float text = number_default text
 typed_default kind.Double text = number_default text
 typed_default _ text = None
 
+-- that of any field: C22 where it is repeated
 abbrev pub default_of : FieldDescriptor → Option Text → Option Broken
 default_of f None = None
 default_of f (Some text) = if is_repeated f.label then Some (broken rule.DefaultOfRepeated)

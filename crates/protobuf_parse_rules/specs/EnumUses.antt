@@ -17,6 +17,7 @@ use Rattle.protobuf_parse_rules.specs.Ranges.{is_among}
 use Rattle.protobuf_parse_rules.specs.Rules.{Broken, broken_by}
 use Rattle.protobuf_parse_rules.specs.declared.rule.Rule.TheVariants as rule
 
+-- whether a type is an enum
 abbrev pub is_enum : FieldType → Bool
 is_enum kind.Enum = true
 is_enum _ = false
@@ -30,22 +31,26 @@ enum_of_field all f =
 abbrev pub of_enum : List BodyParts → (NamedEnum → Option Broken) → FieldDescriptor → Option Broken
 of_enum all r f = option_and_then r (enum_of_field all f)
 
+-- C34 for an enum of proto2 in proto3
 abbrev pub enum_of_proto2 : (proto3 : Bool) → NamedEnum → Option Broken
 enum_of_proto2 proto3 e =
     if proto3 && not e.proto3 then Some (broken_by rule.EnumOfProto2 e.name) else None
 
+-- the names of an enum's values
 abbrev pub value_names : EnumDescriptor → List Text
 value_names e = map (λ (v : EnumValueDescriptor). v.name) e.value
 
+-- whether one of them is that
 abbrev pub has_value : NamedEnum → Text → Bool
 has_value e name = is_among name (value_names e.what)
 
+-- C35 for a default that names no value
 abbrev pub default_value : FieldDescriptor → NamedEnum → Option Broken
 default_value f e =
     option_and_then (λ (text : Text). if has_value e text then None
     else Some (broken_by rule.NoValueOfName text)) f.default_value
 
--- a field of number 2 of a message behind a map
+-- C36 for the values of a map: they are field 2 of the message behind it
 abbrev pub map_value : Content → FieldDescriptor → NamedEnum → Option Broken
 map_value content f e =
     if (is_entry content && int_eq f.number (pos 2)) && is_some (not_zero e.what.value)

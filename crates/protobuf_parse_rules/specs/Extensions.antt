@@ -15,13 +15,16 @@ use Rattle.protobuf_parse_rules.specs.Ranges.{in_ranges}
 use Rattle.protobuf_parse_rules.specs.Rules.{Broken, broken_by, broken_if}
 use Rattle.protobuf_parse_rules.specs.declared.rule.Rule.TheVariants as rule
 
+-- C18 for the label `required`
 abbrev pub required_extension : Label → Option Broken
 required_extension l = broken_if (is_required l) rule.RequiredExtension
 
+-- whether a label is `optional`
 abbrev pub is_optional : Label → Bool
 is_optional label.Optional = true
 is_optional _ = false
 
+-- the message that an extension extends
 abbrev pub extendee_of : List BodyParts → FieldDescriptor → Option NamedMessage
 extendee_of all e = option_and_then (message_named all) e.extendee
 
@@ -30,10 +33,12 @@ abbrev pub of_extendee : List BodyParts → (NamedMessage → Option Broken) →
     → Option Broken
 of_extendee all r e = option_and_then r (extendee_of all e)
 
+-- C32 for a number outside of the ranges of the message
 abbrev pub outside_ranges : ℤ → NamedMessage → Option Broken
 outside_ranges n m = if in_ranges n (extension_ranges m.what) then None
     else Some (broken_by (rule.NumberNotForExtensions n) m.name)
 
+-- C33 for any other than an optional message, where the message is a message set
 abbrev pub of_message_set : FieldDescriptor → NamedMessage → Option Broken
 of_message_set e m =
     if is_message_set m.what && not (is_optional e.label && is_message e.type_)

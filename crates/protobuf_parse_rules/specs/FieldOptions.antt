@@ -13,6 +13,7 @@ use Rattle.protobuf_parse_model.specs.Options.{FieldOptionValues}
 use Rattle.protobuf_parse_rules.specs.Rules.{Broken, broken_if}
 use Rattle.protobuf_parse_rules.specs.declared.rule.Rule.TheVariants as rule
 
+-- whether a label is `repeated`
 abbrev pub is_repeated : Label → Bool
 is_repeated label.Repeated = true
 is_repeated _ = false
@@ -25,10 +26,12 @@ is_packable kind.Message = false
 is_packable kind.Group = false
 is_packable _ = true
 
+-- whether a type is a message
 abbrev pub is_message : FieldType → Bool
 is_message kind.Message = true
 is_message _ = false
 
+-- whether a type is one of integers of 64 bits
 abbrev pub is_64_bits : FieldType → Bool
 is_64_bits kind.Int64 = true
 is_64_bits kind.Uint64 = true
@@ -37,9 +40,11 @@ is_64_bits kind.Fixed64 = true
 is_64_bits kind.Sfixed64 = true
 is_64_bits _ = false
 
+-- `packed` is set to true
 abbrev pub says_packed : FieldOptionValues → Bool
 says_packed o = unwrap_or o.packed false
 
+-- `lazy` or `unverified_lazy` is set to true
 abbrev pub says_lazy : FieldOptionValues → Bool
 says_lazy o = unwrap_or o.lazy false || unwrap_or o.unverified_lazy false
 
@@ -49,13 +54,16 @@ is_js_type None = false
 is_js_type (Some JsNormal) = false
 is_js_type (Some _) = true
 
+-- C19 for `packed` at a field that isn't repeated, or whose type can't be packed
 abbrev pub packed_option : Label → FieldType → FieldOptionValues → Option Broken
 packed_option l type_ o =
     broken_if (says_packed o && not (is_repeated l && is_packable type_)) rule.PackedNotPackable
 
+-- C20 for `lazy` at a field that is no message
 abbrev pub lazy_option : FieldType → FieldOptionValues → Option Broken
 lazy_option type_ o = broken_if (says_lazy o && not (is_message type_)) rule.LazyNotMessage
 
+-- C21 for `jstype` at a field of another type than integers of 64 bits
 abbrev pub js_type_option : FieldType → FieldOptionValues → Option Broken
 js_type_option type_ o =
     broken_if (is_js_type o.jstype && not (is_64_bits type_)) rule.JsTypeNotLarge

@@ -15,7 +15,7 @@ json_claim file scope f = record {
   who = record { file = file; name = name_within scope f.name; number = f.number; kind = None };
 }
 
--- the name is another field's
+-- C5, and C6 in proto2: the name is another field's
 abbrev pub json_rule : (proto3 : Bool) → Rules
 json_rule proto3 c other = Some (record {
   rule = if proto3 then rule.JsonNameInUse else rule.JsonNameInUseProto2;
@@ -23,6 +23,7 @@ json_rule proto3 c other = Some (record {
   by = Some other.name;
 })
 
+-- C5 or C6 at each field whose name in JSON an earlier one has
 abbrev pub json_names_in_use : BodyParts → List Breach
 json_names_in_use p =
     conflicts (json_rule p.proto3) [] (map (json_claim p.file p.scope) (fields_of p.content))

@@ -11,6 +11,7 @@ use Rattle.protobuf_parse_rules.specs.declared.rule.Rule.{Rule}
 use Rattle.protobuf_parse_rules.specs.declared.rule.Rule.TheVariants as rule
 use Rattle.protobuf_parse_rules.specs.Violations.{breaches}
 
+-- whether a rule is C1
 abbrev pub is_number_in_use : Rule → Bool
 is_number_in_use (rule.NumberInUse n) = true
 is_number_in_use _ = false
@@ -32,13 +33,16 @@ NumbersAreApart = (files : List FileDescriptor) → NoneInUse files → AreApart
 
 -- ---- some of the files, by their paths
 
+-- whether the path is one of these
 abbrev pub among : Text → List Text → Bool
 among path paths = list_any (λ (x : Text). bytes_eq path x) paths
 
+-- no path stands there twice
 abbrev pub AreEachOnce : List Text → Type 0
 AreEachOnce [] = Unit {0}
 AreEachOnce (p ∷ ps) = (among p ps ≡ false) × AreEachOnce ps
 
+-- each of the paths is one of the others
 abbrev pub AreWithin : (paths others : List Text) → Type 0
 AreWithin paths others = (p : Text) → among p paths ≡ true → among p others ≡ true
 

@@ -5,6 +5,7 @@ use Rattle.std.specs.Prelude.{ℤ, pos, Bool, not, ◌&&◌, if◌then◌else◌
 use Rattle.protobuf_parse_rules.specs.Rules.{Broken, broken, broken_if}
 use Rattle.protobuf_parse_rules.specs.declared.rule.Rule.TheVariants as rule
 
+-- C2 for a number below 1, C3 for one that is too large, C4 for one that implementations keep
 abbrev pub limit : (extension : Bool) → ℤ → Option Broken
 limit extension n = if int_lt n (pos 1) then Some (broken (rule.NumberNotPositive n))
     else if not extension && int_lt (pos 536870911) n then Some (broken (rule.NumberTooLarge n))

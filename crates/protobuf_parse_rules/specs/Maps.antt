@@ -11,11 +11,13 @@ use Rattle.protobuf_parse_rules.specs.Bodies.{Content, of_message, of_file}
 use Rattle.protobuf_parse_rules.specs.Rules.{Broken, broken_if}
 use Rattle.protobuf_parse_rules.specs.declared.rule.Rule.TheVariants as rule
 
+-- whether a message stands behind a map
 abbrev pub is_entry : Content → Bool
 is_entry (of_message m) =
     unwrap_or (option_and_then (λ (o : MessageOptionValues). o.map_entry) m.options) false
 is_entry (of_file f) = false
 
+-- whether a type is none of these
 abbrev pub is_no_key : FieldType → Bool
 is_no_key kind.Float = true
 is_no_key kind.Double = true
@@ -25,7 +27,7 @@ is_no_key kind.Group = true
 is_no_key kind.Enum = true
 is_no_key _ = false
 
--- a field of the message, which is the key if the message stands behind a map
+-- C25 for a field of the message that is a key, which it is if the message stands behind a map
 abbrev pub key_type : Content → FieldDescriptor → Option Broken
 key_type content f =
     broken_if (is_entry content && (int_eq f.number (pos 1) && is_no_key f.type_)) rule.MapKey

@@ -23,17 +23,21 @@ pub record Named : Type 0 where
   pub kind : NamedKind
   pub name : Text
 
+-- what has that name in the scope
 abbrev pub named_in : (file scope : Text) → NamedKind → (name : Text) → Named
 named_in file scope k name = record { file = file; kind = k; name = name_within scope name }
 
+-- fields, or extensions
 abbrev pub fields_named : (file scope : Text) → NamedKind → List FieldDescriptor → List Named
 fields_named file scope k fields =
     map (λ (f : FieldDescriptor). named_in file scope k f.name) fields
 
+-- oneofs
 abbrev pub oneofs_named : (file scope : Text) → List OneofDescriptor → List Named
 oneofs_named file scope oneofs =
     map (λ (o : OneofDescriptor). named_in file scope kind.Oneof o.name) oneofs
 
+-- values of an enum, whose scope is the one around the enum
 abbrev pub values_named : (file scope : Text) → List EnumValueDescriptor → List Named
 values_named file scope values =
     map (λ (v : EnumValueDescriptor). named_in file scope kind.EnumValue v.name) values
@@ -43,10 +47,12 @@ abbrev pub enum_named : (file scope : Text) → EnumDescriptor → List Named
 enum_named file scope e =
     named_in file scope kind.Enum e.name ∷ values_named file scope e.value
 
+-- methods, whose scope is the service
 abbrev pub methods_named : (file scope : Text) → List MethodDescriptor → List Named
 methods_named file scope methods =
     map (λ (m : MethodDescriptor). named_in file scope kind.Method m.name) methods
 
+-- a service, and its methods in it
 abbrev pub service_named : (file scope : Text) → ServiceDescriptor → List Named
 service_named file scope s =
     named_in file scope kind.Service s.name
@@ -59,6 +65,7 @@ packages_named file scope (part ∷ parts) =
     named_in file scope kind.Package part
     ∷ packages_named file (name_within scope part) parts
 
+-- the package of a file, if it has one
 abbrev pub package_named : (file : Text) → Option Text → List Named
 package_named file None = []
 package_named file (Some name) = packages_named file [] (dotted_parts name)
@@ -77,9 +84,11 @@ both_named file scope content =
     flat_map (enum_named file scope) (enums_of content)
     ++ fields_named file scope kind.Extension (extensions_of content)
 
+-- all that a body declares
 abbrev pub names_at : BodyParts → List Named
 names_at p = own_named p.file p.scope p.content ++ both_named p.file p.scope p.content
 
+-- what it claims: its full name
 abbrev pub name_claim : Named → Claim
 name_claim n = record {
   thing = record { number = pos 0; name = n.name; scope = [] };
@@ -91,7 +100,7 @@ abbrev pub name_taken : (file : Text) → NamedKind → (first : NamedKind) → 
 name_taken file kind.Package kind.Package = None
 name_taken file k first = Some (broken_by (rule.NameInUse k first) file)
 
--- the full name is another one's
+-- C45: the full name is another one's
 abbrev pub name_rule : Rules
 name_rule c other = option_and_then (λ (k : NamedKind).
     option_and_then (name_taken other.file k) other.kind) c.who.kind

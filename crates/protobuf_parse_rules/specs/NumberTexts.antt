@@ -8,6 +8,7 @@ use Rattle.std.specs.Float.Parse.{is_float_text}
 use Rattle.std.specs.Str.Parse.{starts_with_minus}
 use Rattle.protobuf_parse_model.specs.Descriptors.{Text}
 
+-- without the minus sign at its head, if one stands there
 abbrev pub without_minus : Text → Text
 without_minus text = if starts_with_minus text then drop 1 text else text
 
@@ -15,6 +16,7 @@ without_minus text = if starts_with_minus text then drop 1 text else text
 abbrev pub is_digits : Text → Bool
 is_digits text = nat_lt 0 (length text) && list_all is_ascii_digit text
 
+-- a digit or a point stands at its head
 abbrev pub begins_as_number : Text → Bool
 begins_as_number text = is_ascii_digit (slice_index text 0) || slice_index text 0 == 46
 

@@ -15,21 +15,25 @@ claim_of file scope message f = record {
   who = record { file = file; name = name_within scope f.name; number = f.number; kind = None };
 }
 
+-- those of the fields of the message that is the scope
 abbrev pub field_claims : (file scope : Text) → List FieldDescriptor → List Claim
 field_claims file scope fields = map (claim_of file scope scope) fields
 
+-- that of an extension, of the message that it extends
 abbrev pub extension_claim : (file scope : Text) → FieldDescriptor → List Claim
 extension_claim file scope e =
     map (λ (m : Text). claim_of file scope m e) (option_to_list e.extendee)
 
+-- those of extensions of the scope
 abbrev pub extension_claims : (file scope : Text) → List FieldDescriptor → List Claim
 extension_claims file scope extensions = flat_map (extension_claim file scope) extensions
 
+-- which numbers the fields and the extensions that stand there claim, and of which message
 abbrev pub claims : BodyParts → List Claim
 claims p = field_claims p.file p.scope (fields_of p.content)
     ++ extension_claims p.file p.scope (extensions_of p.content)
 
--- the number of that message is another one's
+-- C1: the number of that message is another one's
 abbrev pub number_rule : Rules
 number_rule c other = Some (record {
   rule = rule.NumberInUse c.thing.number;

@@ -13,6 +13,7 @@ use Rattle.protobuf_parse_rules.specs.declared.rule.Rule.TheVariants as rule
 abbrev pub oneofs_held : List FieldDescriptor → List ℤ
 oneofs_held fields = flat_map (λ (f : FieldDescriptor). option_to_list f.oneof_index) fields
 
+-- C41 where none says that it stands there
 abbrev pub without_fields : (held : Bool) → Option Broken
 without_fields held = broken_if (not held) rule.OneofWithoutFields
 
@@ -23,6 +24,7 @@ oneof_breaches file scope held n o =
     breaches_at (record { file = file; construct = name_within scope o.name })
     (without_fields (is_named held n) ∷ [])
 
+-- of the oneofs of a message, in order
 abbrev pub oneofs_in : (file scope : Text) → Content → List Breach
 oneofs_in file scope (of_message m) =
     by_position (oneof_breaches file scope (oneofs_held m.field)) 0 m.oneof_decl

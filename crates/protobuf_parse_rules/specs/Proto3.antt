@@ -14,31 +14,39 @@ use Rattle.protobuf_parse_rules.specs.Bodies.{Content, of_message, of_file}
 use Rattle.protobuf_parse_rules.specs.Rules.{Broken, broken_by, broken_if}
 use Rattle.protobuf_parse_rules.specs.declared.rule.Rule.TheVariants as rule
 
+-- whether a label is `required`
 abbrev pub is_required : Label → Bool
 is_required label.Required = true
 is_required _ = false
 
+-- whether a type is a group
 abbrev pub is_group : FieldType → Bool
 is_group kind.Group = true
 is_group _ = false
 
+-- C11 for a required field
 abbrev pub required_field : (proto3 : Bool) → Label → Option Broken
 required_field proto3 l = broken_if (proto3 && is_required l) rule.RequiredInProto3
 
+-- C12 for a group
 abbrev pub group_field : (proto3 : Bool) → FieldType → Option Broken
 group_field proto3 type_ = broken_if (proto3 && is_group type_) rule.GroupInProto3
 
+-- C13 for a field with a default
 abbrev pub default_field : (proto3 : Bool) → Option Text → Option Broken
 default_field proto3 default = broken_if (proto3 && is_some default) rule.DefaultInProto3
 
+-- whether a message keeps numbers for extensions
 abbrev pub keeps_numbers : Content → Bool
 keeps_numbers (of_message m) = is_some (slice_get m.extension_range 0)
 keeps_numbers (of_file f) = false
 
+-- C14 for a message that does
 abbrev pub ranges_kept : (proto3 : Bool) → Content → Option Broken
 ranges_kept proto3 content =
     broken_if (proto3 && keeps_numbers content) rule.ExtensionRangeInProto3
 
+-- C16 for a message set
 abbrev pub set_in_proto3 : (proto3 : Bool) → Content → Option Broken
 set_in_proto3 proto3 content =
     broken_if (proto3 && is_message_set content) rule.MessageSetInProto3
@@ -55,6 +63,7 @@ is_of_options name =
     || (bytes_eq name (codes ".google.protobuf.ServiceOptions")
     || bytes_eq name (codes ".google.protobuf.MethodOptions")))))))
 
+-- C15 for an extension of any other message than those of options
 abbrev pub extended : (proto3 : Bool) → (extendee : Option Text) → Option Broken
 extended proto3 None = None
 extended proto3 (Some name) =

@@ -11,36 +11,41 @@ use Rattle.protobuf_parse_rules.specs.Bodies.{reserved_ranges}
 use Rattle.protobuf_parse_rules.specs.Rules.{Breach, Broken, Site, breaches_at, broken_if}
 use Rattle.protobuf_parse_rules.specs.declared.rule.Rule.TheVariants as rule
 
+-- whether the number lies in the range of a message
 abbrev pub in_range : ℤ → Range → Bool
 in_range n r = not (int_lt n r.start) && int_lt n r.end
 
+-- whether the name is one of these
 abbrev pub is_among : Text → List Text → Bool
 is_among name names = list_any (λ (x : Text). bytes_eq x name) names
 
+-- whether the number lies in one of these
 abbrev pub in_ranges : ℤ → List Range → Bool
 in_ranges n ranges = list_any (in_range n) ranges
 
--- a field of the message that has a number or a name which is reserved, or a number that is kept
--- for extensions
+-- C29 for a number that the message reserves
 abbrev pub reserved_number : ℤ → Content → Option Broken
 reserved_number n content =
     broken_if (in_ranges n (reserved_ranges content)) (rule.NumberReserved n)
 
+-- C30 for a name that the message reserves
 abbrev pub reserved_name : Text → Content → Option Broken
 reserved_name name content = broken_if (is_among name (reserved_names content)) rule.NameReserved
 
+-- C31 for a number that it keeps for extensions
 abbrev pub kept_number : ℤ → Content → Option Broken
 kept_number n content =
     broken_if (in_ranges n (extension_ranges content)) (rule.NumberKeptForExtensions n)
 
+-- C26 for a range that begins below 1
 abbrev pub not_positive : (start : ℤ) → Option Broken
 not_positive start = broken_if (int_lt start (pos 1)) (rule.RangeNotPositive start)
 
--- of a message
+-- C27 for a range of a message in which no number lies
 abbrev pub without_numbers : (start end : ℤ) → Option Broken
 without_numbers start end = broken_if (not (int_lt start end)) (rule.RangeEmpty start)
 
--- a range of extensions, but for those of message sets
+-- C28 for a range of extensions that ends too high, where the message is no message set
 abbrev pub too_large : (message_set : Bool) → (end : ℤ) → Option Broken
 too_large message_set end =
     broken_if (not message_set && int_lt (pos 536870912) end) (rule.ExtensionRangeTooLarge end)
@@ -49,12 +54,12 @@ too_large message_set end =
 abbrev pub ranges_of : Content → List Range
 ranges_of content = reserved_ranges content ++ extension_ranges content
 
--- a range begins at a number that lies in more than one of the ranges
+-- C39 for a range that begins at a number which lies in more than one of the ranges
 abbrev pub overlapping : (ranges : List Range) → (start : ℤ) → Option Broken
 overlapping ranges start =
     broken_if (nat_lt 1 (count_by (in_range start) ranges)) (rule.RangesOverlap start)
 
--- what is wrong with a range of extensions of a message, and with a reserved one
+-- what is wrong with a range of extensions of a message
 abbrev pub extension_range : Site → (message_set : Bool) → (ranges : List Range) → Range
     → List Breach
 extension_range site message_set ranges r = breaches_at site
@@ -64,6 +69,7 @@ extension_range site message_set ranges r = breaches_at site
     ∷ overlapping ranges r.start
     ∷ [])
 
+-- what is wrong with a reserved range of a message
 abbrev pub reserved_range : Site → (ranges : List Range) → Range → List Breach
 reserved_range site ranges r =
     breaches_at site (not_positive r.start ∷ overlapping ranges r.start ∷ [])

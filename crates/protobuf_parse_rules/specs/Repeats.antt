@@ -7,12 +7,14 @@ use Rattle.protobuf_parse_rules.specs.Claims.{Claim, Rules, conflicts}
 use Rattle.protobuf_parse_rules.specs.Rules.{Breach, Site, broken_by}
 use Rattle.protobuf_parse_rules.specs.declared.rule.Rule.{Rule}
 
+-- what a text of the construct claims
 abbrev pub repeat_claim : Site → Text → Claim
 repeat_claim site text = record {
   thing = record { number = pos 0; name = text; scope = [] };
   who = record { file = site.file; name = site.construct; number = pos 0; kind = None };
 }
 
+-- that rule is broken, of the text
 abbrev pub repeat_rule : Rule → Rules
 repeat_rule rule c other = Some (broken_by rule c.thing.name)
 

@@ -13,9 +13,11 @@ pub record Broken : Type 0 where
   pub name : Option Text
   pub by : Option Text
 
+-- a rule that speaks of the construct alone
 abbrev pub broken : Rule → Broken
 broken rule = record { rule = rule; name = None; by = None }
 
+-- a rule that speaks of that name beside it
 abbrev pub broken_by : Rule → (name : Text) → Broken
 broken_by rule name = record { rule = rule; name = Some name; by = None }
 
@@ -38,6 +40,7 @@ abbrev pub breaches_at : Site → List (Option Broken) → List Breach
 breaches_at site found =
     map (λ (b : Broken). record { site = site; broken = b }) (flat_map option_to_list found)
 
+-- what the Rust value says
 abbrev pub violation_view : Violation → Breach
 violation_view v = record {
   site = record { file = string_bytes v.file; construct = string_bytes v.construct };
@@ -48,5 +51,6 @@ violation_view v = record {
   };
 }
 
+-- what the violations that the code tells say, in order
 abbrev pub breaches_told : Vec Violation → List Breach
 breaches_told v = map violation_view v.items

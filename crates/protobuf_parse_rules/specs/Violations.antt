@@ -32,9 +32,11 @@ use Rattle.protobuf_parse_rules.specs.Ranges.{ranges_of, reserved_number, reserv
 use Rattle.protobuf_parse_rules.specs.Rules.{Breach, Broken, Site, breaches_at}
 use Rattle.protobuf_parse_rules.specs.Runtimes.{runtime_breaches}
 
+-- what has that name in a body
 abbrev pub site_in : BodyParts → Text → Site
 site_in p name = record { file = p.file; construct = name_within p.scope name }
 
+-- the message of a body, or the package of its file
 abbrev pub site_of_body : BodyParts → Site
 site_of_body p = record { file = p.file; construct = p.scope }
 
@@ -75,10 +77,12 @@ extension_rules all proto3 e =
     ∷ of_extendee all (of_message_set e) e
     ∷ []
 
+-- of a field of a message
 abbrev pub field_breaches : List BodyParts → BodyParts → FieldDescriptor → List Breach
 field_breaches all p f = breaches_at (site_in p f.name) (field_rules all p.content f)
     ++ breaches_at (site_in p f.name) (common_rules all p.proto3 f)
 
+-- of an extension
 abbrev pub extension_breaches : List BodyParts → BodyParts → FieldDescriptor → List Breach
 extension_breaches all p e = breaches_at (site_in p e.name) (extension_rules all p.proto3 e)
     ++ breaches_at (site_in p e.name) (common_rules all p.proto3 e)
@@ -87,6 +91,7 @@ extension_breaches all p e = breaches_at (site_in p e.name) (extension_rules all
 abbrev pub own_rules : (proto3 : Bool) → Content → List (Option Broken)
 own_rules proto3 content = ranges_kept proto3 content ∷ set_in_proto3 proto3 content ∷ []
 
+-- of the ranges of a message
 abbrev pub range_breaches : BodyParts → List Breach
 range_breaches p =
     flat_map (extension_range (site_of_body p) (is_message_set p.content) (ranges_of p.content))
@@ -98,6 +103,7 @@ abbrev pub imports_breaches : List BodyParts → BodyParts → List Breach
 imports_breaches all p =
     repeats rule.ImportedTwice (site_of_body p) (imports_of p.content) ++ unused_imports all p
 
+-- of a message or a file itself
 abbrev pub own_breaches : List BodyParts → BodyParts → List Breach
 own_breaches all p =
     breaches_at (site_of_body p) (own_rules p.proto3 p.content)
@@ -106,6 +112,7 @@ own_breaches all p =
     ++ (repeats rule.NameReservedTwice (site_of_body p) (reserved_names p.content)
     ++ range_breaches p)))
 
+-- of all else that stands in a body
 abbrev pub breaches_in_rest : List BodyParts → BodyParts → List Breach
 breaches_in_rest all p = own_breaches all p ++ flat_map (enum_breaches p) (enums_of p.content)
 

@@ -48,6 +48,7 @@ pub record CheckIsBroken (legal : Legal) (files : Files) (events : List Event) (
   pub beginning : until (ends true files) events ≡ done ++ rest
   pub reads : AreAnswered legal (reads_in done) files.reads
 
+-- how a check may end: with the reports, with the fault that ends it, or for want of memory
 abbrev pub CheckEnds : Legal → Files → List Event → Result (Vec FileReport) RunFault → Type 0
 CheckEnds legal files events (Ok reports) = IsWholeCheck legal files events reports.items
 CheckEnds legal files events (Err f) = CheckIsEnded legal files events f

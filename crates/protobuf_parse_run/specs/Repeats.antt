@@ -16,6 +16,7 @@ use Rattle.protobuf_parse_model.specs.LastDeclared.{last_declared}
 use Rattle.protobuf_parse_model.specs.Linking.{beginning, declares_name, link_faults}
 use Rattle.protobuf_parse_elaboration.specs.FilesByPath.{Trees, among, trees_at}
 
+-- whether a list is empty
 abbrev pub is_nothing : {A : Type 0} → List A → Bool
 is_nothing [] = true
 is_nothing (x ∷ xs) = false
@@ -32,6 +33,7 @@ completing_import reaches files (i ∷ is) =
     if is_nothing (out_of_reach reaches i.path files) then Some i.place
     else completing_import reaches (out_of_reach reaches i.path files) is
 
+-- the first place that there is
 abbrev pub or_place : Option Place → Option Place → Place
 or_place (Some p) other = p
 or_place None (Some p) = p
@@ -45,6 +47,7 @@ repeat_place reaches files t extension name =
     or_place (last_declared extension name t)
     (completing_import reaches files (imports t.statements))
 
+-- whether a fault is E6
 abbrev pub is_of_extension : ElabErrorKind → Bool
 is_of_extension kind.ExtensionDeclaredTwice = true
 is_of_extension _ = false

@@ -45,6 +45,7 @@ use Rattle.protobuf_parse_run.specs.Walks.{cycle, long, load, check, elab, Trees
 use Rattle.protobuf_parse_run.specs.Walks.{FileRead}
 use Rattle.protobuf_parse_run.specs.Walks.{reads_in, elab_paths, events, import_statements, until}
 
+-- what a run's input says
 abbrev pub input_view : RunInput → Input
 input_view (given.Named name) = named (path_buf_text name)
 input_view (given.At name fs_path) = at (path_buf_text name) (string_bytes fs_path)
@@ -104,6 +105,7 @@ pub record FilesAreListed (trees : Trees) (reached seen : Text → List Text) : 
 abbrev pub answer_for : Files → Text → Option ReadOutcome
 answer_for files path = first_read path files.reads
 
+-- the bytes of a path
 abbrev pub text_for : Files → Text → Option Text
 text_for files path = text_read files.bundled files.reads path
 
@@ -139,6 +141,7 @@ HaveLists bundled log = (trees : Trees) → HasTrees bundled log trees
 
 -- ---- which event fails
 
+-- both are there, and are the same
 abbrev pub are_same_bytes : Option Text → Option Text → Bool
 are_same_bytes (Some a) (Some b) = bytes_eq a b
 are_same_bytes _ _ = false
@@ -173,6 +176,7 @@ own_faults files p (Some t) =
     file_faults (environment (trees_at files.trees (files.seen p)) no_customs t) t
 own_faults files p None = []
 
+-- whether a file has faults of its own
 abbrev pub is_faulty : Files → Text → Bool
 is_faulty files p = not (is_nothing (own_faults files p (files.trees p)))
 
@@ -203,6 +207,7 @@ ends gathers files (load a p) = not (is_some (files.trees p))
 ends gathers files (check n f p) = not (are_same_bytes (content_at files n) (text_for files p))
 ends gathers files (elab p) = not (is_nothing (ending_faults gathers files p (files.trees p)))
 
+-- whether an event ends a run
 abbrev pub fails : Files → Event → Bool
 fails files e = ends false files e
 
@@ -219,6 +224,7 @@ pub data ResolverSays : Type 0 where
   unreadable : Text → ResolverSays
   refuses : Text → ResolverSays
 
+-- what the Rust value says
 abbrev pub fault_said : ResolveFault → ResolverSays
 fault_said refused.Memory = no_memory
 fault_said (refused.CouldNotRead path) = unreadable (string_bytes path)
@@ -249,14 +255,17 @@ StandsInCheck own p answer (fault.Shadowed input path) =
     × (text_given [] [] answer ≡ Some bytes)
 StandsInCheck own p answer _ = ⊥
 
+-- of a file that its own import chain meets again, which is named
 abbrev pub StandsInCycle : Text → RunFault → Type 0
 StandsInCycle p (fault.ImportCycle path) = string_bytes path ≡ p
 StandsInCycle p _ = ⊥
 
+-- of an input from which a chain is too long, which is named
 abbrev pub StandsInLong : Text → RunFault → Type 0
 StandsInLong i (fault.ImportChainTooLong input) = string_bytes input ≡ i
 StandsInLong i _ = ⊥
 
+-- one of these faults, which stand in the file that faults call so
 abbrev pub StandsInElab : Text → List elaborating.Fault → RunFault → Type 0
 StandsInElab origin faults (fault.Elaborate file error) = (string_bytes file ≡ origin)
     × Among faults (fault_view error)
@@ -273,6 +282,7 @@ StandsThere gathers files (elab p) =
     StandsInElab (origin_given p (answer_for files p))
     (ending_faults gathers files p (files.trees p))
 
+-- the fault stands at the event that ends a run
 abbrev pub StandsAtEvent : Files → Event → RunFault → Type 0
 StandsAtEvent files e f = StandsThere false files e f
 
@@ -282,6 +292,7 @@ StandsAtEvent files e f = StandsThere false files e f
 abbrev pub MayResolve : Type 1
 MayResolve = Text → Result (Option ResolvedProtoFile) ResolveFault → Type 0
 
+-- what a reader may answer for a path of the host
 abbrev pub MayRead : Type 1
 MayRead = Text → Result (Vec ℕ) ReadInputFault → Type 0
 
@@ -293,6 +304,7 @@ Resolved may p outcome.NotFound = may p (Ok None)
 Resolved may p (outcome.ResolverFault why) = (why ≡ refused.Memory → ⊥) × may p (Err why)
 Resolved may p (outcome.ReaderFault why) = ⊥
 
+-- nor is it one of the reader's, who is asked for an input's own file
 abbrev pub WasRead : MayRead → Text → ReadOutcome → Type 0
 WasRead may own (outcome.Content origin content) = (string_bytes origin ≡ own)
     × may own (Ok content)
@@ -352,6 +364,7 @@ pub record IsBroken (legal : Legal) (files : Files) (events : List Event) (f : R
   pub beginning : until (fails files) events ≡ done ++ rest
   pub reads : AreAnswered legal (reads_in done) files.reads
 
+-- how a run may end: with the descriptors, with the first fault, or for want of memory
 abbrev pub RunEnds : Legal → Files → List Event → Result (Vec FileDescriptorProto) RunFault → Type 0
 RunEnds legal files events (Ok ds) = IsAccepted legal files events ds.items
 RunEnds legal files events (Err f) = RunIsRefused legal files events f
@@ -403,6 +416,7 @@ abbrev pub if_resolver : Asked → Text → List Text
 if_resolver the_resolver p = p ∷ []
 if_resolver (the_reader own) p = []
 
+-- those of these reads
 abbrev pub resolved_in : List FileRead → List Text
 resolved_in reads = flat_map (λ (r : FileRead). if_resolver r.asked r.path) reads
 
@@ -411,6 +425,7 @@ abbrev pub if_reader : Asked → Text → List Input
 if_reader the_resolver p = []
 if_reader (the_reader own) p = at p own ∷ []
 
+-- those of these reads
 abbrev pub placed_reads : List FileRead → List Input
 placed_reads reads = flat_map (λ (r : FileRead). if_reader r.asked r.path) reads
 
@@ -419,6 +434,7 @@ abbrev pub if_placed : Input → List Input
 if_placed (named p) = []
 if_placed (at p own) = at p own ∷ []
 
+-- those of a run's inputs
 abbrev pub placed : List Input → List Input
 placed inputs = flat_map if_placed inputs
 

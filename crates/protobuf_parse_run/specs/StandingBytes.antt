@@ -52,6 +52,7 @@ abbrev pub held_in_field : Scope → FieldDescriptor → List HeldBytes
 held_in_field scope d =
     held (λ (o : FieldOptionValues). o.custom) of.Field (full_name scope d.name) d.options
 
+-- of a oneof of that scope
 abbrev pub held_in_oneof : Scope → OneofDescriptor → List HeldBytes
 held_in_oneof scope d =
     held (λ (o : OneofOptionValues). o.custom) of.Oneof (full_name scope d.name) d.options
@@ -61,6 +62,7 @@ abbrev pub held_in_value : Scope → EnumValueDescriptor → List HeldBytes
 held_in_value within d =
     held (λ (o : EnumValueOptionValues). o.custom) of.EnumValue (full_name within d.name) d.options
 
+-- of an enum of that scope, with its values
 abbrev pub held_in_enum : Scope → EnumDescriptor → List HeldBytes
 held_in_enum scope d =
     held (λ (o : EnumOptionValues). o.custom) of.Enum (full_name scope d.name) d.options
@@ -78,6 +80,7 @@ abbrev mutual
       ++ flat_map (held_in_field (inside scope parts.name)) parts.extension
       ++ held_in_messages (inside scope parts.name) nested
 
+  -- of messages that stand side by side
   pub held_in_messages : Scope → MessageDescriptors → List HeldBytes
   held_in_messages scope no_messages = []
   held_in_messages scope (messages m ms) = held_in_message scope m ++ held_in_messages scope ms
@@ -87,6 +90,7 @@ abbrev pub held_in_method : Scope → MethodDescriptor → List HeldBytes
 held_in_method within d =
     held (λ (o : MethodOptionValues). o.custom) of.Method (full_name within d.name) d.options
 
+-- of a service of that scope, with its methods
 abbrev pub held_in_service : Scope → ServiceDescriptor → List HeldBytes
 held_in_service scope d =
     held (λ (o : ServiceOptionValues). o.custom) of.Service (full_name scope d.name) d.options

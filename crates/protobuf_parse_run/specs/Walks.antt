@@ -19,10 +19,12 @@ pub data Asked : Type 0 where
   the_resolver : Asked
   the_reader : Text → Asked
 
+-- the proto path of an input
 abbrev pub input_name : Input → Text
 input_name (named p) = p
 input_name (at p own) = p
 
+-- an input that is named is asked of the resolver, one at a path of its own of the reader
 abbrev pub asked_of : Input → Asked
 asked_of (named p) = the_resolver
 asked_of (at p own) = the_reader own
@@ -46,6 +48,7 @@ same_event (check n f p) (check m g q) = nat_eq n m
 same_event (elab p) (elab q) = bytes_eq p q
 same_event _ _ = false
 
+-- whether an event is among these
 abbrev pub has : Event → List Event → Bool
 has event events = list_any (λ x. same_event event x) events
 
@@ -62,9 +65,11 @@ import_paths t = map (λ (i : ImportSyntax). i.path) (imports t.statements)
 abbrev pub Reaches : Trees → Text → Text → Type 0
 Reaches = Leads import_paths
 
+-- the path of an import, where it is public
 abbrev pub public_path : ImportSyntax → List Text
 public_path i = if is_public i.vis then i.path ∷ [] else []
 
+-- that of a statement, where it is a public import
 abbrev pub public_paths_of : StatementSyntax → List Text
 public_paths_of s = flat_map public_path (imported s)
 
@@ -89,6 +94,7 @@ pub data Sees (trees : Trees) : Text → Text → Type 0 where
 abbrev pub SeenAreReached : Type 0
 SeenAreReached = (trees : Trees) (p q : Text) → Sees trees p q → Reaches trees p q
 
+-- the walks of these paths, one behind the other
 abbrev pub walks_joined : (Text → List Event) → List Text → List Event
 walks_joined walk_of [] = []
 walks_joined walk_of (path ∷ paths) = walk_of path ++ walks_joined walk_of paths
@@ -107,6 +113,7 @@ walk trees input asked (suc room) chain path =
     else load asked path ∷ events_inside (trees path)
     (walk trees input the_resolver room (chain ++ path ∷ [])) path
 
+-- a read: who is asked, and for the file of which path
 pub record FileRead : Type 0 where
   pub asked : Asked
   pub path : Text
@@ -124,6 +131,7 @@ elab_paths [] = []
 elab_paths (elab path ∷ events) = path ∷ elab_paths events
 elab_paths (_ ∷ events) = elab_paths events
 
+-- how many imports a tree has, if there is one
 abbrev pub statements_of : Option FileSyntax → ℕ
 statements_of None = 0
 statements_of (Some t) = length (import_paths t)
@@ -141,6 +149,7 @@ checks kept (named p) = []
 checks kept (at p own) = if has (load the_resolver p) kept then check (length (reads_in kept)) own p
     ∷ [] else []
 
+-- the walk of an input, in which a chain has room for a hundred files
 abbrev pub input_walk : Trees → Input → List Event
 input_walk trees i = walk trees (input_name i) (asked_of i) 100 [] (input_name i)
 
