@@ -3,6 +3,7 @@ use Rattle.std.specs.Prelude.{[], None}
 use Rattle.protobuf_parse_syntax.specs.Dependencies.{FileImports}
 use Rattle.protobuf_parse_model.specs.Descriptors.{FileDescriptor}
 
+-- a descriptor with these imports and nothing else
 abbrev pub imports_alone : FileImports → FileDescriptor
 imports_alone found = record {
   name = None;

@@ -41,6 +41,7 @@ abbrev pub left_first : Option (List Text) → Option (List Text) → Option (Li
 left_first (Some parts) later = Some parts
 left_first None later = later
 
+-- what is left of the input, where one of the includes is a front of it
 abbrev pub left_of : List Text → Text → Option (List Text)
 left_of [] input = None
 left_of (include ∷ includes) input = left_first (left_by include input) (left_of includes input)
@@ -50,36 +51,45 @@ abbrev pub naming_unless : Option PathError → Text → Naming
 naming_unless (Some why) text = unnamed why
 naming_unless None text = named_as text
 
+-- what is left, as a path of the host, is to be a proto path
 abbrev pub naming_of_rest : Option (List Text) → Naming
 naming_of_rest None = outside
 naming_of_rest (Some parts) =
     naming_unless (host_path_fault (joined parts)) (joined (kept_parts (joined parts)))
 
+-- what an input is called, where these are the includes
 abbrev pub naming_of : List Text → Text → Naming
 naming_of includes input = naming_of_rest (left_of includes input)
 
 -- ---- parts as slices of a text
 
+-- what the parts say, without where they lie in memory
 abbrev pub part_views : List (Bor (List ℕ)) → List Text
 part_views parts = map (λ (p : Bor (List ℕ)). p.now) parts
 
 -- ---- as faults list includes: `["a", "b"]`, each as it was given
 
+-- an include in double quotes
 abbrev pub quoted_include : Text → Text
 quoted_include include = codes "\"" ++ include ++ codes "\""
 
+-- and one that is not the first
 abbrev pub next_include : Text → Text
 next_include include = codes ", " ++ quoted_include include
 
+-- all of them, without the brackets
 abbrev pub includes_between : List Text → Text
 includes_between [] = []
 includes_between (include ∷ includes) = quoted_include include ++ flat_map next_include includes
 
+-- the whole list
 abbrev pub includes_text : List Text → Text
 includes_text includes = codes "[" ++ includes_between includes ++ codes "]"
 
 -- ---- which fault stands for an input
 
+-- either fault names the input as it was given; one lists the includes, the other says why what
+-- is left is no proto path
 abbrev pub StandsAtInput : List Text → Text → RunFault → Type 0
 StandsAtInput includes input (fault.FileMustResideInImportPath path listed) =
     (string_bytes path ≡ input) × (string_bytes listed ≡ includes_text includes)
@@ -88,6 +98,7 @@ StandsAtInput includes input (fault.InputPath path why) =
     (string_bytes path ≡ input) × (naming_of includes input ≡ unnamed why)
 StandsAtInput includes input _ = ⊥
 
+-- whether an input gets no proto path
 abbrev pub is_unnamed : Naming → Bool
 is_unnamed (named_as text) = false
 is_unnamed _ = true

@@ -21,6 +21,7 @@ use Rattle.protobuf_parse.specs.Folders.{MayFind}
 abbrev pub includes_of : Parser → List Text
 includes_of parser = map string_bytes parser.includes.items
 
+-- the paths of the inputs, as they were added
 abbrev pub inputs_of : Parser → List Text
 inputs_of parser = map string_bytes parser.inputs.items
 
@@ -63,10 +64,12 @@ pub record IsParsed (includes inputs : List Text) (parsed : ParsedAndTypechecked
 
 -- ---- the descriptors of the inputs alone
 
+-- whether the name is one of these
 abbrev pub is_name_among : List Text → Option Text → Bool
 is_name_among names None = false
 is_name_among names (Some name) = list_any (λ (n : Text). bytes_eq n name) names
 
+-- whether the descriptor is that of an input, by its name
 abbrev pub is_of_input : List Text → FileDescriptorProto → Bool
 is_of_input names file = is_name_among names (option_map string_bytes file.name)
 
