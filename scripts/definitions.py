@@ -4,8 +4,8 @@
 Run it at the top of the repository: scripts/definitions.py prints each file of specs/ that has
 such a definition, with the lines of these definitions and of the whole file, and the sum. With
 --unused it lists the definitions of specs/ that no public clause rests on. They stand in files of
-their own, which begin with the line MARK, and docs/definitions.md says the sums; where that is not
-so the status is 1.
+their own, which begin with the line MARK, each definition that a public clause rests on has a
+comment of its own, and docs/definitions.md says the sums; where that is not so the status is 1.
 """
 
 import re
@@ -20,7 +20,7 @@ CRATES += ["run", ""]
 TOKEN = re.compile(r"[^\s(){};,λ\[\]`:!&]+")
 USE = r"(?:^|(?<=\n))\s*(?:ghost |pub |unfoldable )*use (Rattle\.[^\s{;]+?)"
 SIGNATURE = re.compile(
-    r"\s*(?:abbrev |unfoldable )?(?:pub )?(?:(?:data|record) (\S+)|([A-Za-z◌«][^\s(){}:]*) :)"
+    r"\s*(?:abbrev |unfoldable )?(?:pub )?(?:(?:data|record) ([^\s{]+)|([A-Za-z◌«][^\s(){}:]*) :)"
 )
 
 
@@ -51,8 +51,9 @@ def resolve(word, module, names, aliases, own):
 
 
 class Definition:
-    def __init__(self, module, path, lines):
-        self.module, self.path, self.lines, self.rests_on = module, path, lines, set()
+    def __init__(self, module, path, body):
+        self.module, self.path, self.lines, self.rests_on = module, path, len(body), set()
+        self.comments = sum(line.strip().startswith("--") for line in body)
 
 
 def paragraphs(text):
@@ -89,7 +90,7 @@ def read_specs():
         sizes[path] = text.count("\n")
         for part in paragraphs(text):
             body = [line for line in part.split("\n") if not re.match(r"\s*(\w+ )*use ", line)]
-            definition = Definition(module, path, len(body))
+            definition = Definition(module, path, body)
             for name in names_in("\n".join(body)):
                 found.setdefault((module, name), definition)
         given = re.findall(r"(?m)^(?:unfoldable )?pub use .*$", text)
@@ -190,14 +191,28 @@ def rests(found, passed_on):
     return needed
 
 
-def sentence(lines):
-    """What docs/definitions.md says of these lines of files."""
+def has_comment(path, name):
+    """Whether a comment stands above a definition; a constructor's is that of its type."""
+    lines = path.read_text().split("\n")
+    for number, line in enumerate(lines):
+        found = None if line.strip().startswith("--") else SIGNATURE.match(line)
+        if found and name in found.groups():
+            while re.match(r"\s+(?!\s|pub )", lines[number]):
+                number -= 1
+            above = lines[number - 1].strip()
+            if above.startswith("--") and not above.startswith("-- ----"):
+                return True
+    return False
+
+
+def sentence(lines, comments):
+    """What docs/definitions.md says of these lines of files, so many of them comments."""
     parts = []
     for crate in CRATES:
         counts = [n for path, n in lines.items() if crate_folder(crate) in path.parents]
         parts.append(f"`{crate_folder(crate).name}` {sum(counts)} in {len(counts)}")
     return (
-        f"{sum(lines.values()):,} lines of definitions and their comments in {len(lines)} files "
+        f"{sum(lines.values()):,} lines in {len(lines)} files, {comments:,} of them comments "
         f"({'; '.join(parts)})"
     )
 
@@ -222,11 +237,15 @@ def main():
     mixed = [(d.path, name) for (_, name), d in found.items() if d not in needed and d.path in lines]
     for path, name in sorted(mixed):
         print(f"no public clause rests on {name}, which stands among others: {path}")
-    said = sentence(lines)
+    told = [(d.path, name) for (_, name), d in found.items() if d in needed]
+    bare = sorted(definition for definition in told if not has_comment(*definition))
+    for path, name in bare:
+        print(f"public clauses rest on {name}, which has no comment: {path}")
+    said = sentence(lines, sum(definition.comments for definition in needed))
     is_told = said in PAGE.read_text()
     if not is_told:
         print(f"{PAGE} doesn't say: {said}")
-    return 1 if wrong or mixed or not is_told else 0
+    return 1 if wrong or mixed or bare or not is_told else 0
 
 
 sys.exit(main())

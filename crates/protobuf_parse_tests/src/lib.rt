@@ -1,17 +1,13 @@
 //! Tests of what can't be a case: names and paths as values, descriptors made by hand, values of
-//! entries, a resolver of the caller's own, real files, the programs on them, and the texts of all
-//! faults, counted. Nothing but tests stands here; the tables of texts are cases of
+//! entries, an index, and schemas that a caller holds in memory. Nothing but tests stands here;
+//! those of runs over files are `protobuf_parse_run_tests`, and the tables of texts are cases of
 //! `protobuf_parse_cases`.
 #![tactic(auto)]
 
 #[cfg(test)]
-mod commands;
-#[cfg(test)]
 mod declared_names;
 #[cfg(test)]
 mod encoding;
-#[cfg(test)]
-mod faults;
 #[cfg(test)]
 mod hashing;
 #[cfg(test)]
@@ -23,22 +19,10 @@ mod listed;
 #[cfg(test)]
 mod names;
 #[cfg(test)]
-mod one_read;
-#[cfg(test)]
-mod outcome;
-#[cfg(test)]
-mod program;
-#[cfg(test)]
 mod proto_path;
 #[cfg(test)]
 mod reading;
 #[cfg(test)]
-mod real_files;
-#[cfg(test)]
 mod registry;
-#[cfg(test)]
-mod resolving;
-#[cfg(test)]
-mod run_faults;
 #[cfg(test)]
 mod sets;

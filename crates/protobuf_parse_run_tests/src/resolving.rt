@@ -1,7 +1,7 @@
 //! Descriptors by a resolver of the caller's own.
 
 ghost use Rattle.std.specs.Prelude.{IfErr};
-ghost use Rattle.protobuf_parse_tests.specs.Sources.{IsGiven, IsOfTheFiles};
+ghost use Rattle.protobuf_parse_run_tests.specs.Sources.{IsGiven, IsOfTheFiles};
 
 use protobuf_parse::pure::parse_and_typecheck_custom;
 use protobuf_parse::{
