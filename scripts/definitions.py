@@ -191,18 +191,18 @@ def rests(found, passed_on):
     return needed
 
 
-def has_comment(path, name):
-    """Whether a comment stands above a definition; a constructor's is that of its type."""
+def commented(path):
+    """The names of a file above which a comment stands; a constructor's is that of its type."""
     lines = path.read_text().split("\n")
+    names = set()
     for number, line in enumerate(lines):
         found = None if line.strip().startswith("--") else SIGNATURE.match(line)
-        if found and name in found.groups():
-            while re.match(r"\s+(?!\s|pub )", lines[number]):
-                number -= 1
-            above = lines[number - 1].strip()
-            if above.startswith("--") and not above.startswith("-- ----"):
-                return True
-    return False
+        while found and re.match(r"\s+(?!\s|pub )", lines[number]):
+            number -= 1
+        above = lines[number - 1].strip()
+        if found and above.startswith("--") and not above.startswith("-- ----"):
+            names.add(found.group(1) or found.group(2))
+    return names
 
 
 def sentence(lines, comments):
@@ -237,9 +237,9 @@ def main():
     mixed = [(d.path, name) for (_, name), d in found.items() if d not in needed and d.path in lines]
     for path, name in sorted(mixed):
         print(f"no public clause rests on {name}, which stands among others: {path}")
-    told = [(d.path, name) for (_, name), d in found.items() if d in needed]
-    bare = sorted(definition for definition in told if not has_comment(*definition))
-    for path, name in bare:
+    has_comment = {path: commented(path) for path in lines}
+    bare = [(d.path, n) for (_, n), d in found.items() if d in needed and n not in has_comment[d.path]]
+    for path, name in sorted(bare):
         print(f"public clauses rest on {name}, which has no comment: {path}")
     said = sentence(lines, sum(definition.comments for definition in needed))
     is_told = said in PAGE.read_text()

@@ -298,7 +298,8 @@ moved_below marks i lt =
     let order = unmarked marks (indices marks) ++ marked marks (indices marks) in
     let same = sym (length-range_with_len 0 (length marks)) in
     let found = slice_get_within order (moved_index marks i) i (moved_itself marks i lt) in
-    let long = length_permutation (indices marks) order (is_permutation marks (indices marks) same) in
+    let moved = is_permutation marks (indices marks) same in
+    let long = length_permutation (indices marks) order moved in
     omega (arith, found, long, same)
 
 outside : (marks : List Bool) (i : ℕ) → length marks ≤ i → moved_index marks i ≡ i

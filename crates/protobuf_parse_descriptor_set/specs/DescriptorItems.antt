@@ -126,10 +126,10 @@ file_items f =
 abbrev pub set_items : List FileDescriptor → Items
 set_items files = flat_map (λ f. part 1 (file_items f)) files
 
--- as a tree of entries, which a reader gets back
+-- the same as a tree of entries, which the bytes of a set spell
 abbrev pub set_entries : List FileDescriptor → Entries
 set_entries files = entries_of_list (set_items files)
 
--- in the wire format
+-- the bytes of a set
 abbrev pub set_bytes : List FileDescriptor → List ℕ
 set_bytes files = bytes_of (set_items files)

@@ -1,5 +1,5 @@
-//! Messages inside messages: each is written where it goes, behind a byte for its length. So no list
-//! but the result holds what is written.
+//! Messages inside messages: each is written where it goes, behind a byte for its length. So no
+//! list but the result holds what is written.
 
 ghost use Rattle.std.specs.Prelude.{◌≡◌, ◌++◌, ◌∷◌, ◌+◌, ◌-◌, ◌*◌, ◌<◌, [], List, ℕ, OnOk, IfOk};
 ghost use Rattle.std.specs.Prelude.{drop, flat_map, length, map, option_map, take};

@@ -46,8 +46,8 @@ pub record FieldTypeOf : Type 0 where
   pub kind : FieldType
   pub name : Option Text
 
--- a type by what its name means; nothing comes of a name that means nothing, since a fault
--- stands there
+-- the type that a name means; for one that means nothing, which is a fault, a message without a
+-- name
 abbrev pub type_of_meaning : Option DeclaredType → FieldTypeOf
 type_of_meaning None = record { kind = kind.Message; name = None }
 type_of_meaning (Some d) = record { kind = kind_of_type d.what; name = Some d.name }
@@ -106,7 +106,7 @@ abbrev pub in_option : (ConstantSyntax → List Wrong) → Option OptionSyntax �
 in_option wrongs None = []
 in_option wrongs (Some o) = placed o.place (wrongs o.value)
 
--- nothing comes of a string that says nothing, since a fault stands there
+-- a text; for a string that says none, which is a fault, the empty one
 abbrev pub text_or_empty : Option Text → Text
 text_or_empty text = unwrap_or text []
 

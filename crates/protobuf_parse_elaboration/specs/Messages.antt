@@ -121,7 +121,7 @@ statement_label (group at label name number fields) = label
 abbrev pub has_own_oneof : Environment → FieldStatementSyntax → Bool
 has_own_oneof env f = says_optional env.syntax (statement_label f)
 
--- with an underscore before the field's name
+-- the oneof of the field of that name: its name has an underscore before it
 abbrev pub own_oneof_of : Text → OneofDescriptor
 own_oneof_of name = record { name = codes "_" ++ name; options = None }
 

@@ -42,7 +42,7 @@ pub record Named : Type 0 where
   pub field : FieldDescriptor
   pub value : ValueTree
 
--- by its name and its field; a number that has none is told
+-- a field that was read, by its name and its descriptor; a number without these is told
 abbrev pub named_as : Option Text → Option FieldDescriptor → ValueTree → WireRead Named
 named_as (Some name) (Some field) value =
     Ok (record { name = name; field = field; value = value })

@@ -21,7 +21,7 @@ abbrev pub spelled_at : OptionScope → Construct → List OptionSyntax → List
 spelled_at at construct os =
     bytes_unless (custom_statement_faults at construct os) (encoded (denotes at construct os))
 
--- the same as it is asked for, by construct and scope
+-- the same, by construct and scope, in a file that reaches the first files and sees the second
 abbrev pub option_bytes : (files visible : List FileDescriptor) → CustomBytes
 option_bytes files visible = λ construct scope os.
     spelled_at (record { files = files; visible = visible; scope = scope }) construct os

@@ -5,12 +5,12 @@ use Rattle.std.specs.Int.RustNames.{FitsSigned}
 use Rattle.protobuf_parse_model.specs.Declarations.{Declared}
 use Rattle.protobuf_parse_model.specs.Descriptors.{EnumDescriptor, EnumValueDescriptor}
 
--- of these values
+-- The numbers of these values have 32 bits.
 abbrev pub AreSmall : List EnumValueDescriptor → Type 0
 AreSmall [] = Unit {0}
 AreSmall (v ∷ vs) = FitsSigned w32 v.number × AreSmall vs
 
--- of these enums
+-- Those of the values of these enums have.
 abbrev pub HaveSmall : List (Declared EnumDescriptor) → Type 0
 HaveSmall [] = Unit {0}
 HaveSmall (e ∷ es) = AreSmall e.what.value × HaveSmall es

@@ -107,7 +107,7 @@ field_name f = f.name
 abbrev pub enums_inside : Inside → List EnumDescriptor
 enums_inside inside = inside.enums
 
--- and its extensions
+-- the extensions of what stands there
 abbrev pub extensions_inside : Inside → List FieldDescriptor
 extensions_inside inside = inside.extensions
 

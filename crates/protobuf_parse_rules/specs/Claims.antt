@@ -38,12 +38,12 @@ first_claim claims thing = find (λ (c : Claim). same_thing c.thing thing) claim
 abbrev pub Rules : Type 0
 Rules = Claim → Who → Option Broken
 
--- a claim of what another one has
+-- what a claim breaks, where this one claimed the same before
 abbrev pub taken : Rules → Claim → Who → List Breach
 taken rules c other =
     breaches_at (record { file = c.who.file; construct = c.who.name }) (rules c other ∷ [])
 
--- a claim, where the first claim of the same is given
+-- what it breaks, where this is the first claim of the same, if there is one
 abbrev pub conflict : Rules → Claim → Option Claim → List Breach
 conflict rules c None = []
 conflict rules c (Some first) = taken rules c first.who

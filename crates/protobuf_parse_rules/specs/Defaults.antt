@@ -43,7 +43,7 @@ number_default text = if is_unsigned_number (without_minus text) then None
 abbrev pub signed_32 : Text → Option Broken
 signed_32 text = integer_default (Some 2147483648) 2147483647 text
 
--- one of 64 bits
+-- an integer of 64 bits with its sign
 abbrev pub signed_64 : Text → Option Broken
 signed_64 text = integer_default (Some 9223372036854775808) 9223372036854775807 text
 
@@ -51,7 +51,7 @@ signed_64 text = integer_default (Some 9223372036854775808) 9223372036854775807 
 abbrev pub unsigned_32 : Text → Option Broken
 unsigned_32 text = integer_default None 4294967295 text
 
--- one of 64 bits
+-- an integer of 64 bits that isn't negative
 abbrev pub unsigned_64 : Text → Option Broken
 unsigned_64 text = integer_default None 18446744073709551615 text
 

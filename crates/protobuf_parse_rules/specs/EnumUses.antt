@@ -40,7 +40,7 @@ enum_of_proto2 proto3 e =
 abbrev pub value_names : EnumDescriptor → List Text
 value_names e = map (λ (v : EnumValueDescriptor). v.name) e.value
 
--- whether one of them is that
+-- whether an enum has a value of that name
 abbrev pub has_value : NamedEnum → Text → Bool
 has_value e name = is_among name (value_names e.what)
 

@@ -17,7 +17,7 @@ is_entry (of_message m) =
     unwrap_or (option_and_then (λ (o : MessageOptionValues). o.map_entry) m.options) false
 is_entry (of_file f) = false
 
--- whether a type is none of these
+-- whether keys can't have the type
 abbrev pub is_no_key : FieldType → Bool
 is_no_key kind.Float = true
 is_no_key kind.Double = true

@@ -13,7 +13,7 @@ use Rattle.protobuf_parse_rules.specs.declared.rule.Rule.TheVariants as rule
 abbrev pub oneofs_held : List FieldDescriptor → List ℤ
 oneofs_held fields = flat_map (λ (f : FieldDescriptor). option_to_list f.oneof_index) fields
 
--- C41 where none says that it stands there
+-- C41 where no field says that it stands in the oneof
 abbrev pub without_fields : (held : Bool) → Option Broken
 without_fields held = broken_if (not held) rule.OneofWithoutFields
 

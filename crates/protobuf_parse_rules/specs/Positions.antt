@@ -7,7 +7,7 @@ abbrev pub names_position : ℕ → ℤ → Bool
 names_position n (pos i) = i == n
 names_position n (negsuc i) = false
 
--- whether one of the numbers does
+-- whether one of the numbers names the position
 abbrev pub is_named : List ℤ → ℕ → Bool
 is_named numbers n = list_any (names_position n) numbers
 

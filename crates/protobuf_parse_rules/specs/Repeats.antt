@@ -14,7 +14,7 @@ repeat_claim site text = record {
   who = record { file = site.file; name = site.construct; number = pos 0; kind = None };
 }
 
--- that rule is broken, of the text
+-- the rule is broken by the text
 abbrev pub repeat_rule : Rule → Rules
 repeat_rule rule c other = Some (broken_by rule c.thing.name)
 

@@ -96,7 +96,7 @@ lite_extensions all p = if is_lite_path all p.file
 abbrev pub is_generic_in : FileOptionValues → Bool
 is_generic_in o = unwrap_or o.cc_generic_services false || unwrap_or o.java_generic_services false
 
--- whether a file does
+-- whether the options of a file do
 abbrev pub has_generic_services : FileDescriptor → Bool
 has_generic_services f = option_map_or is_generic_in f.options false
 
@@ -106,7 +106,7 @@ lite_service file scope s =
     breaches_at (record { file = file; construct = name_within scope s.name })
     (Some (broken rule.LiteService) ∷ [])
 
--- of all services of a file that does and is for the lite runtime
+-- of all services of a file whose options do and which is for the lite runtime
 abbrev pub lite_services : (file scope : Text) → FileDescriptor → List Breach
 lite_services file scope f = if is_lite f && has_generic_services f
     then flat_map (lite_service file scope) f.service else []

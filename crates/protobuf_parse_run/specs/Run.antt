@@ -255,17 +255,17 @@ StandsInCheck own p answer (fault.Shadowed input path) =
     × (text_given [] [] answer ≡ Some bytes)
 StandsInCheck own p answer _ = ⊥
 
--- of a file that its own import chain meets again, which is named
+-- the fault says of the file of this path that its own import chain meets it again
 abbrev pub StandsInCycle : Text → RunFault → Type 0
 StandsInCycle p (fault.ImportCycle path) = string_bytes path ≡ p
 StandsInCycle p _ = ⊥
 
--- of an input from which a chain is too long, which is named
+-- the fault says of this input that a chain of imports from it is too long
 abbrev pub StandsInLong : Text → RunFault → Type 0
 StandsInLong i (fault.ImportChainTooLong input) = string_bytes input ≡ i
 StandsInLong i _ = ⊥
 
--- one of these faults, which stand in the file that faults call so
+-- the fault is one of these, and names the file as faults call it
 abbrev pub StandsInElab : Text → List elaborating.Fault → RunFault → Type 0
 StandsInElab origin faults (fault.Elaborate file error) = (string_bytes file ≡ origin)
     × Among faults (fault_view error)
@@ -288,7 +288,7 @@ StandsAtEvent files e f = StandsThere false files e f
 
 -- ---- which answers are legal
 
--- what a resolver may answer for a path, and what a reader may
+-- what a resolver may answer for a proto path
 abbrev pub MayResolve : Type 1
 MayResolve = Text → Result (Option ResolvedProtoFile) ResolveFault → Type 0
 
@@ -296,7 +296,7 @@ MayResolve = Text → Result (Option ResolvedProtoFile) ResolveFault → Type 0
 abbrev pub MayRead : Type 1
 MayRead = Text → Result (Vec ℕ) ReadInputFault → Type 0
 
--- want of memory is no answer that is logged
+-- the resolver may give the answer for the path; want of memory is none that is logged
 abbrev pub Resolved : MayResolve → Text → ReadOutcome → Type 0
 Resolved may p (outcome.Content origin content) =
     may p (Ok (Some (record { path = origin; content = content })))
@@ -304,7 +304,7 @@ Resolved may p outcome.NotFound = may p (Ok None)
 Resolved may p (outcome.ResolverFault why) = (why ≡ refused.Memory → ⊥) × may p (Err why)
 Resolved may p (outcome.ReaderFault why) = ⊥
 
--- nor is it one of the reader's, who is asked for an input's own file
+-- the reader may give the answer for the path of the host; nor is its want of memory logged
 abbrev pub WasRead : MayRead → Text → ReadOutcome → Type 0
 WasRead may own (outcome.Content origin content) = (string_bytes origin ≡ own)
     × may own (Ok content)
@@ -411,30 +411,30 @@ RunsAsTold legal inputs bundled log result =
 
 -- ---- nothing is asked twice
 
--- the paths for which the resolver is asked, in order
+-- the path, where the resolver is asked for it
 abbrev pub if_resolver : Asked → Text → List Text
 if_resolver the_resolver p = p ∷ []
 if_resolver (the_reader own) p = []
 
--- those of these reads
+-- the paths for which these reads ask the resolver, in order
 abbrev pub resolved_in : List FileRead → List Text
 resolved_in reads = flat_map (λ (r : FileRead). if_resolver r.asked r.path) reads
 
--- the inputs for which the reader is asked, in order
+-- the input, where the reader is asked for it
 abbrev pub if_reader : Asked → Text → List Input
 if_reader the_resolver p = []
 if_reader (the_reader own) p = at p own ∷ []
 
--- those of these reads
+-- the inputs for which these reads ask the reader, in order
 abbrev pub placed_reads : List FileRead → List Input
 placed_reads reads = flat_map (λ (r : FileRead). if_reader r.asked r.path) reads
 
--- the inputs at paths of their own
+-- the input, where it has a path of its own
 abbrev pub if_placed : Input → List Input
 if_placed (named p) = []
 if_placed (at p own) = at p own ∷ []
 
--- those of a run's inputs
+-- the inputs at paths of their own
 abbrev pub placed : List Input → List Input
 placed inputs = flat_map if_placed inputs
 
