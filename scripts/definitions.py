@@ -15,8 +15,8 @@ from pathlib import Path
 
 PAGE = Path("docs/definitions.md")
 MARK = "-- No public clause rests on this file.\n"
-CRATES = "base grammar lexer syntax model elaboration wire options descriptor_set listing rules index".split()
-CRATES += ["run", ""]
+CRATES = "base grammar lexer syntax model elaboration wire options".split()
+CRATES += "descriptor_set listing rules index run".split() + [""]
 TOKEN = re.compile(r"[^\s(){};,λ\[\]`:!&]+")
 USE = r"(?:^|(?<=\n))\s*(?:ghost |pub |unfoldable )*use (Rattle\.[^\s{;]+?)"
 SIGNATURE = re.compile(
@@ -234,11 +234,13 @@ def main():
     print(f"{sum(lines.values()):5} in {len(lines)} files")
     for path in wrong:
         print(f"its first line is wrong: {path}")
-    mixed = [(d.path, name) for (_, name), d in found.items() if d not in needed and d.path in lines]
+    here = [(d, name) for (_, name), d in found.items() if d.path in lines]
+    mixed = [(d.path, name) for d, name in here if d not in needed]
     for path, name in sorted(mixed):
         print(f"no public clause rests on {name}, which stands among others: {path}")
     has_comment = {path: commented(path) for path in lines}
-    bare = [(d.path, n) for (_, n), d in found.items() if d in needed and n not in has_comment[d.path]]
+    told = [(d.path, name) for d, name in here if d in needed]
+    bare = [(path, name) for path, name in told if name not in has_comment[path]]
     for path, name in sorted(bare):
         print(f"public clauses rest on {name}, which has no comment: {path}")
     said = sentence(lines, sum(definition.comments for definition in needed))
