@@ -65,8 +65,7 @@ impl Name {
         String::from_str(alloc, self.as_str())
     }
 
-    /// Its text. One that has memory of its own is handed out without a copy, and takes no memory.
-    /// The one error is that memory is short.
+    /// Its text, as a `String`. The one error is that memory is short.
     pub fn into_string(self, alloc: Global) -> Result<String, AllocError>
         ensures { IfOk result (λ s. string_bytes s ≡ name_bytes self) }
     {

@@ -38,7 +38,7 @@ blank_some z n (inl s) = (s.some, s.within)
 blank_some z n (inr (inl s)) = (omega (arith, s.some), s.within)
 blank_some z n (inr (inr s)) = (omega (arith, s.some), s.within)
 
-less : (z : Bytes) (n : ℕ) → (0 < n) × (n ≤ length z) → length (drop n z) < length z
+pub less : (z : Bytes) (n : ℕ) → (0 < n) × (n ≤ length z) → length (drop n z) < length z
 less z n h = omega (arith, h.0, h.1, length-drop n z)
 
 -- two ways to go on which say the same of each shorter text
@@ -78,7 +78,7 @@ ahead_is o c p z r is =
 -- ---- brackets
 
 -- no front of these tokens nests too deep, behind o brackets opened and c closed
-abbrev ShallowFrom : ℕ → ℕ → List Lexeme → Type 0
+abbrev pub ShallowFrom : ℕ → ℕ → List Lexeme → Type 0
 ShallowFrom o c ts = (n : ℕ) → closed (take n ts) + c + 100 < opened (take n ts) + o → ⊥
 
 counted_cons : (test : TokenKind → Bool) (t : Lexeme) (ts : List Lexeme) (n : ℕ)
@@ -111,7 +111,7 @@ counted_ge : (b : Bool) (n : ℕ) → n ≤ counted b n
 counted_ge true n = omega arith
 counted_ge false n = omega arith
 
-shallow_here : (o c : ℕ) (t : Lexeme) (ts : List Lexeme) → ShallowFrom o c (t ∷ ts)
+pub shallow_here : (o c : ℕ) (t : Lexeme) (ts : List Lexeme) → ShallowFrom o c (t ∷ ts)
     → deepens o c t.kind ≡ false
 shallow_here o c t ts is =
     not_true (deepens o c t.kind) (λ deep.
@@ -129,7 +129,7 @@ shallow_here o c t ts is =
       less,
     )))
 
-shallow_next : (o c : ℕ) (t : Lexeme) (ts : List Lexeme) → ShallowFrom o c (t ∷ ts)
+pub shallow_next : (o c : ℕ) (t : Lexeme) (ts : List Lexeme) → ShallowFrom o c (t ∷ ts)
     → ShallowFrom (counted (is_opening t.kind) o) (counted (is_closing t.kind) c) ts
 shallow_next o c t ts is n deep =
     is (suc n)

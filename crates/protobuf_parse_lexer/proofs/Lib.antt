@@ -10,4 +10,5 @@ pub mod Quotes
 pub mod Escaping
 pub mod Lanes
 pub mod Ahead
+pub mod BehindSteps
 pub mod ShortWays

@@ -51,7 +51,7 @@ blank_more z n each is k from less =
           subst (λ j. is_in class.Blank (slice_index z j) ≡ true) e is
     ]
 
-are_blank : (z : Bytes) (n : ℕ) → 0 < n → n ≤ length z → AllIn class.Blank z 0 n
+pub are_blank : (z : Bytes) (n : ℕ) → 0 < n → n ≤ length z → AllIn class.Blank z 0 n
     → RunStopsAt class.Blank z n → IsBlank z n
 are_blank z n some within each stops =
     inl (record { some = some; within = within; each = each; stops = stops })

@@ -15,6 +15,8 @@ pub mod Total
 pub mod Ahead
 pub mod AheadOf
 pub mod AheadViews
+pub mod Behind
+pub mod BehindViews
 pub mod Tokenizers
 pub mod CutAnswers
 pub mod PieceParts

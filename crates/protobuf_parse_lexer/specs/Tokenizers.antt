@@ -1,5 +1,5 @@
 -- What lies ahead of a tokenizer: the tokens of its text from the next one on.
-use Rattle.std.specs.Prelude.{◌≡◌, Option, Some, None}
+use Rattle.std.specs.Prelude.{◌≡◌, Option, Some, None, List, [], ◌∷◌}
 use Rattle.protobuf_parse_lexer.specs.Ahead.{AheadIn, in_front, ends_at}
 use Rattle.protobuf_parse_lexer.specs.Cut.{Stream}
 use Rattle.protobuf_parse_lexer.specs.Text.{Bytes}
@@ -23,6 +23,15 @@ Follows (Some t) b p z s =
 -- They lie ahead of the tokenizer.
 abbrev pub LiesAhead : Tokenizer → Stream → Type 0
 LiesAhead t s = Follows t.next t.brackets t.after t.rest.now s
+
+-- the place of the first token, or else of the end
+abbrev pub place_before : List Lexeme → Place → Place
+place_before [] end = end
+place_before (t ∷ ts) end = t.place
+
+-- where the next token stands, or the end where none is left
+abbrev pub next_place : Stream → Place
+next_place s = place_before s.tokens s.end
 
 -- Of each tokenizer one stream lies ahead.
 abbrev pub OneLiesAhead : Type 0

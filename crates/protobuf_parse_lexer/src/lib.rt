@@ -10,6 +10,7 @@ pub use lexer::bytes::byte_at;
 pub use lexer::laws::{
     cuts_are_unique, decoding_is_unique, escaped_bytes_decode, one_stream_lies_ahead,
     places_count_characters, strings_are_decoded, strings_are_quoted, texts_tell_kinds,
+    tokens_are_found,
 };
 pub use lexer::str_lit::{StrLit, StrLitDecodeError, stands_for_itself, unquoted};
 pub use lexer::token::{Place, Token, TokenKind, TokenStream};

@@ -1,5 +1,6 @@
 //! Laws of the definitions that the lexer's contracts cite. The functions do nothing.
 
+ghost use Rattle.protobuf_parse_lexer.specs.Behind.{EachIsFound};
 ghost use Rattle.protobuf_parse_lexer.specs.Tokenizers.{OneLiesAhead};
 ghost use Rattle.protobuf_parse_lexer.specs.Laws.{IsOneCut, IsOneFault, IsOneDecoding};
 ghost use Rattle.protobuf_parse_lexer.specs.Laws.{TextsTellKinds};
@@ -51,4 +52,9 @@ pub fn escaped_bytes_decode()
 /// Of each tokenizer just one stream of tokens lies ahead.
 pub fn one_stream_lies_ahead()
     ensures { OneLiesAhead }
+{}
+
+/// Where each token of a text stands in it, in bytes.
+pub fn tokens_are_found()
+    ensures { EachIsFound }
 {}

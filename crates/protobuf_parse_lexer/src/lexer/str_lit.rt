@@ -222,7 +222,8 @@ fn has_no_backslash(piece: &[u8]) -> bool
 /// written.
 #[tactic(auto, using(crate::proofs::Escapes::as_is_alone))]
 pub fn stands_for_itself(piece: &str) -> bool
-    ensures { result ≡ true → StandsFor (piece.now ∷ []) piece.now }
+    ensures value { result ≡ list_all is_no_backslash piece.now }
+    ensures stands { result ≡ true → StandsFor (piece.now ∷ []) piece.now }
 {
     has_no_backslash(piece.as_bytes())
 }

@@ -1,10 +1,11 @@
 //! Tokens that are cut one by one.
 
 ghost use Rattle.std.specs.Prelude.{◌≡◌, ◌≤◌, ◌<◌, ◌+◌, ◌-◌, ◌^◌, ◌⊎◌, ℕ, length, true, false};
-ghost use Rattle.std.specs.Prelude.{IfOk, IfErr, MatchOption};
+ghost use Rattle.std.specs.Prelude.{IfOk, IfErr, IfSome, MatchOption, [], drop};
 ghost use Rattle.protobuf_parse_lexer.specs.Text.{IsToken};
 ghost use Rattle.protobuf_parse_lexer.specs.Ahead.{deepens, counted};
 ghost use Rattle.protobuf_parse_lexer.specs.AheadOf.{ahead};
+ghost use Rattle.protobuf_parse_lexer.specs.Behind.{behinds};
 ghost use Rattle.protobuf_parse_lexer.specs.Classes as class;
 ghost use Rattle.protobuf_parse_lexer.specs.Tokens as tokens;
 
@@ -72,8 +73,8 @@ pub struct Tokenizer<'text> {
     /// The next token, if one is left.
     pub next: Option<NextToken<'text>>,
     /// The place behind it. Where none is left it is the place of the text's end, or 0:0 if the
-    /// tokens don't go on to there.
-    pub after: Place,
+    /// tokens don't go on to there. The column of a comment before a line feed may be any.
+    after: Place,
     rest: &'text str,
     brackets: Brackets,
     ghost lines: { after.line + length rest.now ≤ 2147483648 },
@@ -83,13 +84,15 @@ pub struct Tokenizer<'text> {
 }
 
 impl<'text> Tokenizer<'text> {
-    ghost use Rattle.std.specs.Prelude.{◌↔◌, drop};
+    ghost use Rattle.std.specs.Prelude.{◌↔◌};
     ghost use Rattle.protobuf_parse_lexer.specs.Ahead.{behind, ends_at, nowhere, AheadIn};
     ghost use Rattle.protobuf_parse_lexer.specs.AheadViews.{lies_ahead};
+    ghost use Rattle.protobuf_parse_lexer.specs.Behind.{first};
+    ghost use Rattle.protobuf_parse_lexer.specs.BehindViews.{behinds_ahead};
     ghost use Rattle.protobuf_parse_lexer.specs.Cut.{Stream, HasTokens, IsRefused, error_place};
     ghost use Rattle.protobuf_parse_lexer.specs.Cut.{mark_len};
     ghost use Rattle.protobuf_parse_lexer.specs.Place.{start};
-    ghost use Rattle.protobuf_parse_lexer.specs.Tokenizers.{LiesAhead};
+    ghost use Rattle.protobuf_parse_lexer.specs.Tokenizers.{LiesAhead, next_place};
 
     /// The tokens of a text. S20 at 1:1 if it has over 2147483647 bytes.
     pub fn new(text: &'text str) -> Result<Tokenizer<'text>, ParserErrorWithLocation>
@@ -105,6 +108,10 @@ impl<'text> Tokenizer<'text> {
         // There are no more of them than bytes.
         ensures few { IfOk result (λ t. (s : Stream) → LiesAhead t s
             → length s.tokens ≤ length text.now) }
+
+        // So many bytes stand behind each.
+        ensures behinds { IfOk result (λ t. behinds_ahead t
+            ≡ behinds 0 0 (drop (mark_len text.now) text.now)) }
 
         // What is too long is refused.
         ensures refused { IfErr result (λ e. IsRefused text.now e.error (error_place e)) }
@@ -126,16 +133,36 @@ impl<'text> Tokenizer<'text> {
         Ok(tokens)
     }
 
+    /// The place of the next token. Where none is left it is that of the text's end, or 0:0 if the
+    /// tokens don't go on to there.
+    pub fn place(&self) -> Place
+        ensures { (s : Stream) → LiesAhead self.now s → result ≡ next_place s }
+    {
+        match self.next {
+            Some(token) => token.place,
+            None => self.after,
+        }
+    }
+
+    /// How many bytes of the text stand behind the next token.
+    pub fn bytes_behind(&self) -> usize
+        ensures { IfSome self.now.next (λ t. first (behinds_ahead self.now) ≡ Some result) }
+    {
+        self.rest.len()
+    }
+
     /// Goes past the next token, if one is left.
     pub fn advance(&mut self)
-        ensures { (s : Stream) → LiesAhead self.old s → LiesAhead self.new (behind s) }
+        ensures tokens { (s : Stream) → LiesAhead self.old s → LiesAhead self.new (behind s) }
+        ensures behinds { behinds_ahead self.new ≡ drop 1 (behinds_ahead self.old) }
     {
         self.go_past()
     }
 
     /// The same.
     fn go_past(&mut self)
-        ensures { lies_ahead self.new ≡ behind (lies_ahead self.old) }
+        ensures tokens { lies_ahead self.new ≡ behind (lies_ahead self.old) }
+        ensures behinds { behinds_ahead self.new ≡ drop 1 (behinds_ahead self.old) }
     {
         if self.next.is_some() {
             self.cut_next();
@@ -146,9 +173,11 @@ impl<'text> Tokenizer<'text> {
     /// a short number behind blanks: they are cut without a call, by two thirds of the
     /// instructions.
     fn cut_next(&mut self)
-        ensures { lies_ahead self.new
+        ensures tokens { lies_ahead self.new
             ≡ ahead self.old.brackets.opened self.old.brackets.closed self.old.after
             self.old.rest.now }
+        ensures behinds { behinds_ahead self.new
+            ≡ behinds self.old.brackets.opened self.old.brackets.closed self.old.rest.now }
     {
         let (place, front) = past_blanks(self.after, self.rest);
         let bytes = front.as_bytes();
@@ -170,9 +199,11 @@ impl<'text> Tokenizer<'text> {
     // Kept apart: 4.2 % of the instructions for scalars.
     #[inline(never)]
     fn cut_any(&mut self)
-        ensures { lies_ahead self.new
+        ensures tokens { lies_ahead self.new
             ≡ ahead self.old.brackets.opened self.old.brackets.closed self.old.after
             self.old.rest.now }
+        ensures behinds { behinds_ahead self.new
+            ≡ behinds self.old.brackets.opened self.old.brackets.closed self.old.rest.now }
     {
         let mut place = self.after;
         let mut rest = self.rest;
@@ -197,8 +228,10 @@ impl<'text> Tokenizer<'text> {
         requires lines { place.line + length front.now ≤ 2147483648 }
         requires cols { place.col + length front.now ≤ 2147483648 }
         requires less { length front.now ≤ length self.old.rest.now }
-        ensures { lies_ahead self.new
+        ensures tokens { lies_ahead self.new
             ≡ ahead self.old.brackets.opened self.old.brackets.closed place front.now }
+        ensures behinds { behinds_ahead self.new
+            ≡ behinds self.old.brackets.opened self.old.brackets.closed front.now }
     {
         let Some(brackets) = brackets_past(self.brackets, kind) else {
             return self.end(NOWHERE, front);
@@ -215,7 +248,8 @@ impl<'text> Tokenizer<'text> {
         requires lines { after.line + length rest.now ≤ 2147483648 }
         requires cols { after.col + length rest.now ≤ 2147483648 }
         requires less { length rest.now ≤ length self.old.rest.now }
-        ensures { lies_ahead self.new ≡ ends_at after }
+        ensures tokens { lies_ahead self.new ≡ ends_at after }
+        ensures behinds { behinds_ahead self.new ≡ [] }
     {
         self.next = None;
         self.after = after;
@@ -263,6 +297,7 @@ fn past_blanks(place: Place, text: &str) -> (Place, &str)
     ensures len { length result.1.now ≤ length text.now }
     ensures same { (o c : ℕ)
         → ahead o c result.0 result.1.now ≡ ahead o c place text.now }
+    ensures behinds { (o c : ℕ) → behinds o c result.1.now ≡ behinds o c text.now }
 {
     let (len, behind) = blanks(place, text.as_bytes());
     let (_, rest) = text.split_at(len);

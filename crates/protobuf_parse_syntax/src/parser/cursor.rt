@@ -56,10 +56,7 @@ impl<'text> Cursor<'text> {
     pub fn place(&self) -> Place
         ensures { result ≡ mark_of place_of (left self.now) }
     {
-        match self.tokens.next {
-            Some(token) => token.place,
-            None => self.tokens.after,
-        }
+        self.tokens.place()
     }
 
     /// Whether this symbol comes next.

@@ -1,5 +1,5 @@
 use Rattle.protobuf_parse_lexer.proofs.Ahead.{gone_past}
 use Rattle.protobuf_parse_lexer.proofs.lexer.tokenizer.Tokenizer.advance.Goals as goal
 
-pub returns : goal.returns
-returns c = gone_past c.args.self.now c.go_past.new.self c.go_past.ensures
+pub returns-clause-tokens : goal.returns-clause-tokens
+returns-clause-tokens c = gone_past c.args.self.now c.go_past.new.self c.go_past.ensures.tokens

@@ -6,15 +6,16 @@ use Rattle.protobuf_parse_lexer.specs.Place.{after}
 use Rattle.protobuf_parse_lexer.specs.Scan.{IsPlaceBefore}
 use Rattle.protobuf_parse_lexer.specs.declared.lexer.front.Piece.TheVariants as piece
 use Rattle.protobuf_parse_lexer.proofs.Ahead.{ahead_is}
+use Rattle.protobuf_parse_lexer.proofs.BehindSteps.{behinds_is, blank_behinds}
 use Rattle.protobuf_parse_lexer.proofs.ShortWays.{behind_step}
 use Rattle.protobuf_parse_lexer.proofs.Cuts.{blank_cut}
 use Rattle.protobuf_parse_lexer.proofs.lexer.tokenizer.Tokenizer.cut_any.Goals as goal
 
-pub returns-in-End : goal.returns-in-End
-returns-in-End c =
+pub returns-in-End-clause-tokens : goal.returns-in-End-clause-tokens
+returns-in-End-clause-tokens c =
     let empty : length c.past_blanks.result.1.now
     ≡ 0 = omega (arith, ap length c.as_bytes.ensures.value, c.in-End.ensures) in
-    c.end.ensures
+    c.end.ensures.tokens
     ∙ sym (ahead_is c.pieces.self.brackets.opened c.pieces.self.brackets.closed
     c.past_blanks.result.0 c.past_blanks.result.1.now piece.End empty)
     ∙ c.past_blanks.ensures.same c.pieces.self.brackets.opened c.pieces.self.brackets.closed
@@ -48,6 +49,11 @@ pieces-preserved c =
           c.as_bytes-in-Blank-2.ensures.value c.place_behind-place.ensures.value))
           ∙ c.past_blanks.ensures.same c.pieces.self.brackets.opened c.pieces.self.brackets.closed
           ∙ c.pieces.invariant.4,
+      blank_behinds c.pieces.self.brackets.opened c.pieces.self.brackets.closed z
+          c.split_at.result.1.now n is c.split_at.ensures.back
+          ∙ c.past_blanks.ensures.behinds c.pieces.self.brackets.opened
+          c.pieces.self.brackets.closed
+          ∙ c.pieces.invariant.5,
     )
 
 pub take-requires-clause-token : goal.take-requires-clause-token
@@ -55,18 +61,44 @@ take-requires-clause-token c =
     subst (λ z. IsToken z c.in-Token.len c.in-Token.kind) c.as_bytes.ensures.value
     c.in-Token.ensures
 
-pub returns-in-Token : goal.returns-in-Token
-returns-in-Token c = c.take.ensures
+pub returns-in-Token-clause-tokens : goal.returns-in-Token-clause-tokens
+returns-in-Token-clause-tokens c = c.take.ensures.tokens
     ∙ c.past_blanks.ensures.same c.pieces.self.brackets.opened c.pieces.self.brackets.closed
     ∙ c.pieces.invariant.4
 
-pub returns-in-Fault : goal.returns-in-Fault
-returns-in-Fault c =
+pub returns-in-Fault-clause-tokens : goal.returns-in-Fault-clause-tokens
+returns-in-Fault-clause-tokens c =
     let z = c.past_blanks.result.1.now in
     let e = c.in-Fault.field-0 in
     let is = subst (λ x. IsFault x e) c.as_bytes.ensures.value c.in-Fault.ensures in
-    c.end-in-Fault.ensures
+    c.end-in-Fault.ensures.tokens
     ∙ sym (ahead_is c.pieces.self.brackets.opened c.pieces.self.brackets.closed
     c.past_blanks.result.0 z (piece.Fault e) is)
     ∙ c.past_blanks.ensures.same c.pieces.self.brackets.opened c.pieces.self.brackets.closed
     ∙ c.pieces.invariant.4
+
+pub returns-in-End-clause-behinds : goal.returns-in-End-clause-behinds
+returns-in-End-clause-behinds c =
+    let empty : length c.past_blanks.result.1.now
+    ≡ 0 = omega (arith, ap length c.as_bytes.ensures.value, c.in-End.ensures) in
+    c.end.ensures.behinds
+    ∙ sym (behinds_is c.pieces.self.brackets.opened c.pieces.self.brackets.closed
+    c.past_blanks.result.1.now piece.End empty)
+    ∙ c.past_blanks.ensures.behinds c.pieces.self.brackets.opened c.pieces.self.brackets.closed
+    ∙ c.pieces.invariant.5
+
+pub returns-in-Token-clause-behinds : goal.returns-in-Token-clause-behinds
+returns-in-Token-clause-behinds c = c.take.ensures.behinds
+    ∙ c.past_blanks.ensures.behinds c.pieces.self.brackets.opened c.pieces.self.brackets.closed
+    ∙ c.pieces.invariant.5
+
+pub returns-in-Fault-clause-behinds : goal.returns-in-Fault-clause-behinds
+returns-in-Fault-clause-behinds c =
+    let z = c.past_blanks.result.1.now in
+    let e = c.in-Fault.field-0 in
+    let is = subst (λ x. IsFault x e) c.as_bytes.ensures.value c.in-Fault.ensures in
+    c.end-in-Fault.ensures.behinds
+    ∙ sym (behinds_is c.pieces.self.brackets.opened c.pieces.self.brackets.closed z
+    (piece.Fault e) is)
+    ∙ c.past_blanks.ensures.behinds c.pieces.self.brackets.opened c.pieces.self.brackets.closed
+    ∙ c.pieces.invariant.5

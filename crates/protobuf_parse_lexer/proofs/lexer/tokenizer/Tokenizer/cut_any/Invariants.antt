@@ -2,6 +2,7 @@ use Rattle.std.proofs.Common.{◌≡◌, ◌≤◌, ◌+◌, length}
 use denote.Text.{Utf8}
 use denote.Shadow.{shadow}
 use Rattle.protobuf_parse_lexer.specs.AheadOf.{ahead}
+use Rattle.protobuf_parse_lexer.specs.Behind.{behinds}
 use Rattle.protobuf_parse_lexer.proofs.lexer.tokenizer.Tokenizer.cut_any.Given as goal
 
 -- the same lies ahead of the rest
@@ -13,6 +14,9 @@ invariant-pieces l =
     × (length l.rest ≤ length l.self.rest.now)
     × (ahead l.self.brackets.opened l.self.brackets.closed l.place l.rest
     ≡ ahead l.initial.self.brackets.opened l.initial.self.brackets.closed l.initial.self.after
+    l.initial.self.rest.now)
+    × (behinds l.self.brackets.opened l.self.brackets.closed l.rest
+    ≡ behinds l.initial.self.brackets.opened l.initial.self.brackets.closed
     l.initial.self.rest.now)
 
 abbrev pub decreases-pieces : goal.decreases-pieces

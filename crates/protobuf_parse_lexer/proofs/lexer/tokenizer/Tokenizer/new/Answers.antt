@@ -11,25 +11,25 @@ use Rattle.protobuf_parse_lexer.proofs.lexer.tokenizer.Tokenizer.new.Goals as go
 pub returns-clause-text : goal.returns-clause-text
 returns-clause-text c =
     text_ahead c.cut_next.new.self 0 0 start (drop (mark_len c.args.text.now) c.args.text.now)
-    (c.cut_next.ensures ∙ ap (ahead 0 0 start) c.past_mark.ensures.rest)
+    (c.cut_next.ensures.tokens ∙ ap (ahead 0 0 start) c.past_mark.ensures.rest)
 
 pub returns-clause-read : goal.returns-clause-read
 returns-clause-read c = λ s h.
     subst (λ s. (s.end ≡ nowhere) ⊎ HasTokens c.args.text.now s)
-    (sym (c.cut_next.ensures ∙ ap (ahead 0 0 start) c.past_mark.ensures.rest)
+    (sym (c.cut_next.ensures.tokens ∙ ap (ahead 0 0 start) c.past_mark.ensures.rest)
     ∙ lies_ahead_only c.cut_next.new.self s h)
     (ahead_whole c.args.text.now (omega arith))
 
 pub returns-clause-reads : goal.returns-clause-reads
 returns-clause-reads c = λ s has.
     subst (LiesAhead c.cut_next.new.self)
-    (c.cut_next.ensures ∙ ap (ahead 0 0 start) c.past_mark.ensures.rest
+    (c.cut_next.ensures.tokens ∙ ap (ahead 0 0 start) c.past_mark.ensures.rest
     ∙ tokens_ahead c.args.text.now s has)
     (lies_ahead_is c.cut_next.new.self)
 
 pub returns-clause-few : goal.returns-clause-few
 returns-clause-few c = λ s h.
     subst (λ (s : Stream). length s.tokens ≤ length c.args.text.now)
-    (sym (c.cut_next.ensures ∙ ap (ahead 0 0 start) c.past_mark.ensures.rest)
+    (sym (c.cut_next.ensures.tokens ∙ ap (ahead 0 0 start) c.past_mark.ensures.rest)
     ∙ lies_ahead_only c.cut_next.new.self s h)
     (few_in_text c.args.text.now)
