@@ -1,5 +1,6 @@
 -- What custom options add to the faults of fields, oneofs, extensions, enums and services.
 use Rattle.std.proofs.Common.{◌≡◌, List, [], ◌∷◌, ◌++◌, map, flat_map, ap, refl}
+use Rattle.std.proofs.Common.{bytes_eq}
 use Rattle.protobuf_parse_syntax.specs.Trees.{FieldSyntax, FieldStatementSyntax, field, group}
 use Rattle.protobuf_parse_syntax.specs.Trees.{OneofSyntax, ExtendSyntax, EnumValueSyntax}
 use Rattle.protobuf_parse_syntax.specs.Trees.{EnumSyntax, MethodSyntax, ServiceSyntax}
@@ -14,6 +15,7 @@ use Rattle.protobuf_parse_model.specs.Environment.{Environment, Customs, type_mi
 use Rattle.protobuf_parse_model.specs.BuiltinOptions.{oneof_table, enum_table, enum_value_table}
 use Rattle.protobuf_parse_model.specs.BuiltinOptions.{service_table, method_table}
 use Rattle.protobuf_parse_elaboration.specs.Fields.{type_of, type_faults, default_faults}
+use Rattle.protobuf_parse_elaboration.specs.Fields.{if_not_told}
 use Rattle.protobuf_parse_elaboration.specs.Fields.{json_name_faults, field_options_faults}
 use Rattle.protobuf_parse_elaboration.specs.Fields.{field_faults, field_named, map_faults}
 use Rattle.protobuf_parse_elaboration.specs.Fields.{grouped_faults, group_faults}
@@ -144,7 +146,8 @@ module _ (customs : Customs) where
   method-adds env within m =
       adds-both customs
       (adds-nothing customs (placed m.place
-      (type_missing env m.input ++ type_missing env m.output)))
+      (type_missing env m.input
+      ++ if_not_told (bytes_eq m.output m.input) (type_missing env m.output))))
       (adds-options customs env of.Method method_table (options_of_method m))
 
   -- a service

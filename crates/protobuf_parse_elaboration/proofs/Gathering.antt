@@ -5,15 +5,15 @@ use Rattle.std.proofs.lemmas.Grind.{flat_map-append}
 use Rattle.std.specs.Prelude.{slice_index_or, Result, Ok, Err, IfOk, OnOk}
 use Rattle.protobuf_parse_lexer.specs.declared.lexer.token.Place.{Place}
 use Rattle.protobuf_parse_model.specs.declared.error.ElabError.{ElabError}
-use Rattle.protobuf_parse_model.specs.Faults.{Among, here, Blames, Elaborates, Fault, Wrong}
+use Rattle.protobuf_parse_model.specs.Faults.{IsFirst, TellsFirst, Elaborates, Fault, Wrong}
 use Rattle.protobuf_parse_model.specs.Faults.{fault_view, placed}
 use Rattle.protobuf_parse_model.specs.declared.error.ElabFailure.{ElabFailure}
 
--- the first of those that were told is one of them
-pub first_among : (xs : List ElabError) (x : ElabError) → 0 < length xs
-    → x ≡ slice_index_or xs 0 x → Among (map fault_view xs) (fault_view x)
-first_among [] x lt is = absurd (omega arith)
-first_among (y ∷ ys) x lt is = rw is here
+-- the first of those that were told, as it is seen
+pub first_told : (xs : List ElabError) (x : ElabError) → 0 < length xs
+    → x ≡ slice_index_or xs 0 x → IsFirst (map fault_view xs) (fault_view x)
+first_told [] x lt is = absurd (omega arith)
+first_told (y ∷ ys) x lt is = ap fault_view is
 
 -- none was told
 pub none_told : (xs : List ElabError) → length xs ≡ 0 → map fault_view xs ≡ []
@@ -56,4 +56,4 @@ pub elaborated : {X Y : Type 0} (view : X → Y) (r : Result X ElabFailure) (tol
     (x : X) (value : Y) → told ≡ faults → view x ≡ value → Elaborates (λ (y : X). y) r told x
     → Elaborates view r faults value
 elaborated view (Ok y) told faults x value p q h = (sym p ∙ h.0, ap view h.1 ∙ q)
-elaborated view (Err e) told faults x value p q h = subst (Blames e) p h
+elaborated view (Err e) told faults x value p q h = subst (TellsFirst e) p h

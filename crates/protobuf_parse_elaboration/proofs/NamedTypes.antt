@@ -3,7 +3,8 @@
 use Rattle.std.proofs.Common.{◌≡◌, ℕ, ◌+◌, ℤ, pos, Bool, true, false, List, [], ◌∷◌, ◌++◌, map}
 use Rattle.std.proofs.Common.{flat_map, length, Option, Some, None, is_some, IsSome, option_map}
 use Rattle.std.proofs.Common.{option_to_list, unwrap_or, if◌then◌else◌, codes, refl, ap, subst, ◌∙◌}
-use Rattle.std.proofs.Common.{sym}
+use Rattle.std.proofs.Common.{sym, bytes_eq}
+use Rattle.std.proofs.lemmas.Slice.Eq.{bytes_eq-Decides}
 use Rattle.std.specs.List.{AllByRecursion}
 use Rattle.protobuf_parse_syntax.specs.Trees.{TypeSyntax, scalar, map_of, named, FieldSyntax}
 use Rattle.protobuf_parse_syntax.specs.Trees.{FieldStatementSyntax, field, group, OneofSyntax}
@@ -44,6 +45,7 @@ use Rattle.protobuf_parse_elaboration.specs.ConstructOptions.{construct_faults}
 use Rattle.protobuf_parse_elaboration.specs.Fields as specs
 use Rattle.protobuf_parse_elaboration.specs.Fields.{FieldTypeOf, type_of_meaning, type_of}
 use Rattle.protobuf_parse_elaboration.specs.Fields.{inner_type_faults, type_faults}
+use Rattle.protobuf_parse_elaboration.specs.Fields.{if_not_told, is_told_alike}
 use Rattle.protobuf_parse_elaboration.specs.Fields.{faults_of_options, FieldOwner, of_message}
 use Rattle.protobuf_parse_elaboration.specs.Fields.{field_of, field_statement_of, field_faults}
 use Rattle.protobuf_parse_elaboration.specs.Fields.{fields_of_group, map_faults, grouped_faults}
@@ -301,6 +303,26 @@ module _ (P M : Text → Type 0) (any : (name : Text) → M name → P name) (cu
             h.message;
       }
 
+  -- where nothing is told of two names nothing is wrong in the second
+  same-clean : (env : Environment) (m n : Text) (told : Bool) → (told ≡ true → m ≡ n)
+      → type_missing env m ≡ [] → if_not_told told (type_missing env n) ≡ []
+      → type_missing env n ≡ []
+  same-clean env m n true same none v = subst (λ (z : Text). type_missing env z ≡ []) (same refl) none
+  same-clean env m n false same none v = v
+
+  -- where nothing is told of a map's types nothing is wrong in either
+  value-clean : (env : Environment) (name : Text) (key value : TypeSyntax)
+      → inner_type_faults env name key ≡ []
+      → if_not_told (is_told_alike key value) (inner_type_faults env name value) ≡ []
+      → inner_type_faults env name value ≡ []
+  value-clean env name (scalar s) value k v = v
+  value-clean env name (named m) (scalar s) k v = v
+  value-clean env name (named m) (named n) k v = same-clean env m n (bytes_eq m n) (bytes_eq-Decides m n).0 k v
+  value-clean env name (named m) (map_of key value) k v = v
+  value-clean env name (map_of key value) (scalar s) k v = v
+  value-clean env name (map_of key value) (named n) k v = v
+  value-clean env name (map_of key value) (map_of l w) k v = k
+
   -- the entry of a map
   entries-named : (env : Environment) → Known env → (name : Text) (t : TypeSyntax)
       → type_faults env name t ≡ []
@@ -310,10 +332,15 @@ module _ (P M : Text → Type 0) (any : (name : Text) → M name → P name) (cu
   entries-named env known name (map_of key value) h =
       let k : TypeIsNamed (type_of (with_customs env) name key) =
       inner-named env known name key
-      (no-left (inner_type_faults env name key) (inner_type_faults env name value) h) in
+      (no-left (inner_type_faults env name key)
+      (if_not_told (is_told_alike key value) (inner_type_faults env name value)) h) in
       let v : TypeIsNamed (type_of (with_customs env) name value) =
       inner-named env known name value
-      (no-right (inner_type_faults env name key) (inner_type_faults env name value) h) in (
+      (value-clean env name key value
+      (no-left (inner_type_faults env name key)
+      (if_not_told (is_told_alike key value) (inner_type_faults env name value)) h)
+      (no-right (inner_type_faults env name key)
+      (if_not_told (is_told_alike key value) (inner_type_faults env name value)) h)) in (
         message-with-named (entry_name name)
             (entry_field (codes "key") (pos 1) (type_of (with_customs env) name key)
             ∷ entry_field (codes "value") (pos 2) (type_of (with_customs env) name value) ∷ [])
@@ -593,14 +620,18 @@ module _ (P M : Text → Type 0) (any : (name : Text) → M name → P name) (cu
       → MethodIsNamed (method_of (with_customs env) m)
   method-named env known m h =
       let options = construct_faults env of.Method method_table (options_of_method m) in
-      let missing = type_missing env m.input ++ type_missing env m.output in
+      let output = if_not_told (bytes_eq m.output m.input) (type_missing env m.output) in
+      let missing = type_missing env m.input ++ output in
       let types : missing
       ≡ [] = none_placed m.place missing (no-left (placed m.place missing) options h) in (
         full-named m.input (type_named env m.input) (known env.scope m.input)
-            (no-left (type_missing env m.input) (type_missing env m.output) types),
+            (no-left (type_missing env m.input) output types),
         (
           full-named m.output (type_named env m.output) (known env.scope m.output)
-              (no-right (type_missing env m.input) (type_missing env m.output) types),
+              (same-clean env m.input m.output (bytes_eq m.output m.input)
+                  (λ e. sym ((bytes_eq-Decides m.output m.input).0 e))
+                  (no-left (type_missing env m.input) output types)
+                  (no-right (type_missing env m.input) output types)),
           tt,
         ),
       )

@@ -65,12 +65,23 @@ inner_type_faults env name (scalar s) = []
 inner_type_faults env name (named n) = type_missing env n
 inner_type_faults env name (map_of key value) = fault DanglingTypeName name
 
--- what is wrong in the type of the field of that name
+-- Two types in which the same is wrong, if anything is: those of one name, and maps.
+abbrev pub is_told_alike : TypeSyntax → TypeSyntax → Bool
+is_told_alike (named m) (named n) = bytes_eq m n
+is_told_alike (map_of key value) (map_of other_key other_value) = true
+is_told_alike s t = false
+
+-- what is wrong, if it is not told at the same place already
+abbrev pub if_not_told : Bool → List Wrong → List Wrong
+if_not_told told wrongs = if told then [] else wrongs
+
+-- what is wrong in the type of the field of that name, each once
 abbrev pub type_faults : Environment → Text → TypeSyntax → List Wrong
 type_faults env name (scalar s) = []
 type_faults env name (named n) = type_missing env n
 type_faults env name (map_of key value) =
-    inner_type_faults env name key ++ inner_type_faults env name value
+    inner_type_faults env name key
+    ++ if_not_told (is_told_alike key value) (inner_type_faults env name value)
 
 -- ---- labels
 

@@ -2,7 +2,7 @@
 -- google/protobuf/descriptor.proto; and the faults that stand in it, at its methods and at its
 -- options. The types of a method are looked up from the package. Protocol Buffers Language
 -- Specification, "Service definition" (https://protobuf.dev).
-use Rattle.std.specs.Prelude.{List, [], ◌∷◌, ◌++◌, map, flat_map, unwrap_or}
+use Rattle.std.specs.Prelude.{List, [], ◌∷◌, ◌++◌, map, flat_map, unwrap_or, bytes_eq}
 use Rattle.protobuf_parse_syntax.specs.Trees.{OptionSyntax, OptionStatementSyntax, MethodSyntax}
 use Rattle.protobuf_parse_syntax.specs.Trees.{ServiceStatementSyntax, service_method}
 use Rattle.protobuf_parse_syntax.specs.Trees.{service_option, ServiceSyntax}
@@ -15,6 +15,7 @@ use Rattle.protobuf_parse_model.specs.Environment.{type_missing}
 use Rattle.protobuf_parse_model.specs.BuiltinOptions.{service_table, method_table}
 use Rattle.protobuf_parse_model.specs.OptionMessages.{service_options, method_options}
 use Rattle.protobuf_parse_elaboration.specs.ConstructOptions.{construct_faults}
+use Rattle.protobuf_parse_elaboration.specs.Fields.{if_not_told}
 
 -- the method that the statement declares, if it declares one
 abbrev pub methods_in : ServiceStatementSyntax → List MethodSyntax
@@ -59,10 +60,12 @@ service_of env s = record {
       (options_of_service s);
 }
 
--- of a method: E2 or E3 for a type whose name means nothing
+-- of a method: E2 or E3 for a type whose name means nothing, once where both types have that name
 abbrev pub method_faults : Environment → MethodSyntax → List Fault
 method_faults env m =
-    placed m.place (type_missing env m.input ++ type_missing env m.output)
+    placed m.place
+    (type_missing env m.input
+    ++ if_not_told (bytes_eq m.output m.input) (type_missing env m.output))
     ++ construct_faults env of.Method method_table (options_of_method m)
 
 -- a method as a declaration

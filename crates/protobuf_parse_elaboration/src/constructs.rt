@@ -150,7 +150,7 @@ pub fn elaborate_all_owned<C: CustomOptions>(
 }
 
 /// The descriptor, where no fault was told; else the first.
-#[tactic(auto, using(crate::proofs::Gathering::first_among, crate::proofs::Gathering::none_told))]
+#[tactic(auto, using(crate::proofs::Gathering::first_told, crate::proofs::Gathering::none_told))]
 fn unless_told(
     mut faults: Vec<ElabError>,
     descriptor: FileDescriptorProto,

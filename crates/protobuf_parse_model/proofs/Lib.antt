@@ -6,6 +6,7 @@ pub mod TreeViews
 pub mod Scopes
 pub mod FileOrder
 pub mod DeclaredAt
+pub mod DeclaredPlaces
 pub mod LastDeclared
 pub mod Tables
 pub mod ByHash

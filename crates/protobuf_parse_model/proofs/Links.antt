@@ -35,7 +35,7 @@ use Rattle.protobuf_parse_model.specs.Descriptors.{Text}
 use Rattle.protobuf_parse_model.specs.Declarations.{DeclaredType, file_generated, file_types}
 use Rattle.protobuf_parse_model.specs.DeclaredAt.{DeclaredAt, file_at}
 use Rattle.protobuf_parse_model.specs.SeenFiles.{declared_as}
-use Rattle.protobuf_parse_model.specs.Faults.{Among, here, there, Elaborates, Fault}
+use Rattle.protobuf_parse_model.specs.Faults.{Among, here, there, Passes, Fault}
 use Rattle.protobuf_parse_model.specs.Linking.{beginning, declared_twice, full_names}
 use Rattle.protobuf_parse_model.specs.Linking.{link_faults}
 use Rattle.protobuf_parse_model.specs.Linking.{occurrences, repeated}
@@ -503,14 +503,12 @@ module _ (seen : Seen) (files : List FileSyntax)
 
   -- gone through by the files that are reached
   pub links : (r : Result (Unit {0}) ElabFailure)
-      → Elaborates {X = Unit {0}} {Y = Unit {0}} (λ u. u) r
-      (flat_map (listed_faults seen) seen.reach.now) tt
-      → Elaborates {X = Unit {0}} {Y = Unit {0}} (λ u. u) r (link_faults reached) tt
-  links (Ok u) h = (
-    faultless (λ file member.
-        no_fault_at (listed_faults seen) seen.reach.now file h.0 member),
-    h.1,
-  )
+      → Passes r
+      (flat_map (listed_faults seen) seen.reach.now)
+      → Passes r (link_faults reached)
+  links (Ok u) h =
+      faultless (λ file member.
+          no_fault_at (listed_faults seen) seen.reach.now file h member)
   links (Err failure.Memory) h = tt
   links (Err (failure.Fault e)) h = files_told seen.reach.now _ h
 
@@ -564,9 +562,9 @@ module _ (seen : Seen) (files : List FileSyntax)
       of_one false g = elim g [ ]
 
   pub links_listed : (r : Result (Unit {0}) ElabFailure)
-      → Elaborates {X = Unit {0}} {Y = Unit {0}} (λ u. u) r
-      (flat_map (reached_faults seen) (listed_files seen.declarations.now)) tt
-      → Elaborates {X = Unit {0}} {Y = Unit {0}} (λ u. u) r (link_faults reached) tt
-  links_listed (Ok u) h = (faultless (none_twice h.0), h.1)
+      → Passes r
+      (flat_map (reached_faults seen) (listed_files seen.declarations.now))
+      → Passes r (link_faults reached)
+  links_listed (Ok u) h = faultless (none_twice h)
   links_listed (Err failure.Memory) h = tt
   links_listed (Err (failure.Fault e)) h = listed_told (listed_files seen.declarations.now) _ h

@@ -1,4 +1,4 @@
--- The faults that stand in a file, each with its place, and which of them an answer may tell.
+-- The faults that stand in a file, each with its place, and which of them an answer tells.
 --
 -- What is wrong in a construct is said by its definition; where the construct becomes a part of
 -- another, its faults are placed: at the statement that declares it, or at the option that is
@@ -46,7 +46,22 @@ abbrev pub Blames : ElabFailure → List Fault → Type 0
 Blames failure.Memory faults = Unit {0}
 Blames (failure.Fault e) faults = Among faults (fault_view e)
 
--- where no fault stands the result, seen by view, is the value; else it tells a fault that stands
+-- where no fault stands the result is `Ok`; else it tells a fault that stands
+abbrev pub Passes : Result (Unit {0}) ElabFailure → List Fault → Type 0
+Passes (Ok u) faults = faults ≡ []
+Passes (Err e) faults = Blames e faults
+
+-- the value is the first of the list
+abbrev pub IsFirst : {A : Type 0} → List A → A → Type 0
+IsFirst [] x = ⊥
+IsFirst (y ∷ ys) x = x ≡ y
+
+-- the failure tells the first of the faults, unless memory ran out
+abbrev pub TellsFirst : ElabFailure → List Fault → Type 0
+TellsFirst failure.Memory faults = Unit {0}
+TellsFirst (failure.Fault e) faults = IsFirst faults (fault_view e)
+
+-- where no fault stands the result, seen by view, is the value; else it tells the first of them
 abbrev pub Elaborates : {X Y : Type 0} → (X → Y) → Result X ElabFailure → List Fault → Y → Type 0
 Elaborates view (Ok x) faults value = (faults ≡ []) × (view x ≡ value)
-Elaborates view (Err e) faults value = Blames e faults
+Elaborates view (Err e) faults value = TellsFirst e faults

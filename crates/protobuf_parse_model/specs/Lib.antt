@@ -15,6 +15,7 @@ pub mod SeenFiles
 pub mod Outward
 pub mod Linking
 pub mod FileOrder
+pub mod DeclarationLaws
 pub mod DeclaredAt
 pub mod Tables
 pub mod OptionTables

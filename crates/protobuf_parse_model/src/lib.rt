@@ -7,6 +7,7 @@ mod declared_at;
 mod declaring;
 mod descriptor;
 mod error;
+mod laws;
 mod linking;
 mod made_names;
 mod scope;
@@ -24,6 +25,7 @@ pub use descriptor::{
     OneofOptions, OptimizeMode, ReservedRange, ServiceDescriptorProto, ServiceOptions,
 };
 pub use error::{ElabError, ElabErrorKind, ElabFailure, fault, tell};
+pub use laws::declared_names_have_places;
 pub use linking::{BEGINNING, link};
 pub use made_names::{entry_name, group_field_name};
 pub use scope::{

@@ -5,7 +5,7 @@ ghost use Rattle.std.specs.Prelude.{◌<◌, ◌^◌, nat_eq, string_bytes};
 ghost use Rattle.std.specs.List.{list_any};
 ghost use Rattle.protobuf_parse_syntax.specs.Trees.{FileSyntax};
 ghost use Rattle.protobuf_parse_model.specs.declared.scope.seen.Declaration as declaration;
-ghost use Rattle.protobuf_parse_model.specs.Faults.{Elaborates};
+ghost use Rattle.protobuf_parse_model.specs.Faults.{Passes};
 ghost use Rattle.protobuf_parse_model.specs.FileOrder.{FilesAscend};
 ghost use Rattle.protobuf_parse_model.specs.Linking.{link_faults};
 ghost use Rattle.protobuf_parse_model.specs.Tables.{TableTells, is_of};
@@ -34,7 +34,7 @@ pub const BEGINNING: Place = Place { line: 1, col: 1 };
 /// - E6: extensions have one full name.
 pub fn link(alloc: Global, seen: &Seen<'_>) -> Result<(), ElabFailure>
     ensures { (files : List FileSyntax) → TableTells seen.now.declarations.now files →
-        Elaborates (λ u. u) result (link_faults (picked files seen.now.reach.now)) tt }
+        Passes result (link_faults (picked files seen.now.reach.now)) }
 {
     if seen.declarations.repeated.len() < seen.reach.len() {
         return check_each_listed(alloc, seen);
@@ -46,8 +46,8 @@ pub fn link(alloc: Global, seen: &Seen<'_>) -> Result<(), ElabFailure>
 /// than once: goes through the files for which names are listed.
 #[tactic(auto, using(crate::proofs::Blaming::blames_one))]
 fn check_each_listed(alloc: Global, seen: &Seen<'_>) -> Result<(), ElabFailure>
-    ensures { Elaborates (λ u. u) result
-        (flat_map (reached_faults seen.now) (listed_files seen.now.declarations.now)) tt }
+    ensures { Passes result
+        (flat_map (reached_faults seen.now) (listed_files seen.now.declarations.now)) }
 {
     for file in seen.declarations.repeated.keys() {
         check_if_reached(alloc, seen, *file)?;
@@ -57,7 +57,7 @@ fn check_each_listed(alloc: Global, seen: &Seen<'_>) -> Result<(), ElabFailure>
 
 /// As [`check_file`], if that file is reached.
 fn check_if_reached(alloc: Global, seen: &Seen<'_>, file: u32) -> Result<(), ElabFailure>
-    ensures { Elaborates (λ u. u) result (reached_faults seen.now file) tt }
+    ensures { Passes result (reached_faults seen.now file) }
 {
     if is_reached(seen, file) {
         return check_file(alloc, seen, file);
@@ -68,7 +68,7 @@ fn check_if_reached(alloc: Global, seen: &Seen<'_>, file: u32) -> Result<(), Ela
 /// The same as [`check_each_listed`]: goes through the files that are reached.
 #[tactic(auto, using(crate::proofs::Blaming::blames_one))]
 fn check_each_reached(alloc: Global, seen: &Seen<'_>) -> Result<(), ElabFailure>
-    ensures { Elaborates (λ u. u) result (flat_map (listed_faults seen.now) seen.now.reach.now) tt }
+    ensures { Passes result (flat_map (listed_faults seen.now) seen.now.reach.now) }
 {
     for file in seen.reach {
         check_file(alloc, seen, *file)?;
@@ -79,7 +79,7 @@ fn check_each_reached(alloc: Global, seen: &Seen<'_>) -> Result<(), ElabFailure>
 /// Refuses the first of the full names that are listed for the file with that number that the files
 /// that are reached declare more than once.
 fn check_file(alloc: Global, seen: &Seen<'_>, file: u32) -> Result<(), ElabFailure>
-    ensures { Elaborates (λ u. u) result (listed_faults seen.now file) tt }
+    ensures { Passes result (listed_faults seen.now file) }
 {
     check_names(alloc, seen, names_listed(seen.declarations, file))
 }
@@ -98,7 +98,7 @@ fn names_listed(table: &Declarations, file: u32) -> &[String]
 #[tactic(auto, using(crate::proofs::Blaming::blames_at))]
 fn check_names(alloc: Global, seen: &Seen<'_>, names: &[String]) -> Result<(), ElabFailure>
     ensures { let texts = map string_bytes names.now in
-        Elaborates (λ u. u) result (flat_map (name_faults seen.now) texts) tt }
+        Passes result (flat_map (name_faults seen.now) texts) }
 {
     for name in names {
         check_name(alloc, seen, name)?;
@@ -109,7 +109,7 @@ fn check_names(alloc: Global, seen: &Seen<'_>, names: &[String]) -> Result<(), E
 /// Refuses that full name, where the files that are reached declare it more than once.
 #[tactic(auto, using(crate::proofs::Blaming::blames_left, crate::proofs::Blaming::blames_right))]
 fn check_name(alloc: Global, seen: &Seen<'_>, name: &str) -> Result<(), ElabFailure>
-    ensures { Elaborates (λ u. u) result (name_faults seen.now name.now) tt }
+    ensures { Passes result (name_faults seen.now name.now) }
 {
     let declarations = declarations_of(seen.declarations, name);
     if times(seen, declarations, false) > 1 {

@@ -31,21 +31,11 @@ pub enum Syntax {
 }
 
 /// A file.
+#[derive(Drop)]
 pub struct FileTree {
     /// As the `syntax` statement says; proto2 in a file without one.
     pub syntax: Syntax,
     pub statements: Vec<FileStatement>,
-}
-
-// Written out: a crate above calls it, and need not prove anew how each kind of statement is
-// dropped.
-impl Drop for FileTree {
-    fn drop(self) {
-        let FileTree {
-            syntax: _,
-            statements: _,
-        } = self;
-    }
 }
 
 impl FileTree {
@@ -85,6 +75,7 @@ fn package_behind<'a>(statement: &'a FileStatement, before: Option<&'a str>) -> 
 }
 
 /// A statement of a file.
+#[derive(Drop)]
 pub enum FileStatement {
     Import(Import),
     Package(Package),
@@ -93,21 +84,6 @@ pub enum FileStatement {
     Enumeration(Enumeration),
     Extend(Extend),
     Service(Service),
-}
-
-// Written out, as that of `FileTree`.
-impl Drop for FileStatement {
-    fn drop(self) {
-        match self {
-            FileStatement::Import(_)
-            | FileStatement::Package(_)
-            | FileStatement::Option(_)
-            | FileStatement::Message(_)
-            | FileStatement::Enumeration(_)
-            | FileStatement::Extend(_)
-            | FileStatement::Service(_) => {}
-        }
-    }
 }
 
 /// How an imported file is seen.

@@ -21,7 +21,7 @@ use crate::constructs::declared::DeclaredAs;
 use crate::constructs::field::{field_descriptor, group_field, tell_map};
 use crate::constructs::owner::FieldOwner;
 use crate::constructs::told::tell_names;
-use crate::constructs::types::{ResolvedType, inner_type};
+use crate::constructs::types::{ResolvedType, entry_types};
 use crate::constructs::viewpoint::Viewpoint;
 use protobuf_parse_base::Name;
 use protobuf_parse_lexer::Place;
@@ -41,8 +41,8 @@ pub fn boxed(alloc: Global, message: DescriptorProto) -> Result<Box<DescriptorPr
 
 /// The message of the entries of the map of that name.
 ///
-/// Told at the place: E2 or E3 where the name of its key's or its value's type means none; E4 for a
-/// map.
+/// Told at the place, each once: E2 or E3 where the name of its key's or its value's type means
+/// none; E4 for a map.
 pub fn map_entry<C: CustomOptions>(
     at: &Viewpoint<'_, '_, C>,
     faults: &mut Vec<ElabError>,
@@ -58,8 +58,7 @@ pub fn map_entry<C: CustomOptions>(
         let map = map_of (type_syntax key.now) (type_syntax value.now) in
         Tells result faults.old faults.new (placed place (fields.type_faults env name.now map)) }
 {
-    let key = inner_type(at, faults, place, name, key)?;
-    let value = inner_type(at, faults, place, name, value)?;
+    let (key, value) = entry_types(at, faults, place, name, key, value)?;
     entry_message(at.alloc, name, key, value)
 }
 

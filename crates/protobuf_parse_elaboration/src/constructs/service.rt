@@ -1,7 +1,7 @@
 //! Services.
 
 ghost use Rattle.std.specs.Prelude.{◌≡◌, ◌++◌, [], map, flat_map, option_map, string_bytes};
-ghost use Rattle.std.specs.Prelude.{unwrap_or, IfOk};
+ghost use Rattle.std.specs.Prelude.{bytes_eq, unwrap_or, IfOk};
 ghost use Rattle.protobuf_parse_syntax.specs.Trees as tree;
 ghost use Rattle.protobuf_parse_model.specs.BuiltinOptions.{method_table, service_table};
 ghost use Rattle.protobuf_parse_model.specs.Descriptors as described;
@@ -13,6 +13,7 @@ ghost use Rattle.protobuf_parse_model.specs.Faults.{placed};
 ghost use Rattle.protobuf_parse_model.specs.Options.{method_options_view, service_options_view};
 ghost use Rattle.protobuf_parse_model.specs.OptionMessages as sets;
 ghost use Rattle.protobuf_parse_elaboration.specs.ConstructOptions.{construct_faults};
+ghost use Rattle.protobuf_parse_elaboration.specs.Fields.{if_not_told};
 ghost use Rattle.protobuf_parse_elaboration.specs.Parts.{methods_seen};
 ghost use Rattle.protobuf_parse_elaboration.specs.Services as services;
 ghost use Rattle.protobuf_parse_elaboration.specs.Viewpoints.{seen_from};
@@ -137,7 +138,7 @@ fn method_descriptor<C: CustomOptions>(
         (services.method_faults env (tree.method_syntax method.now)) }
 {
     let input_type = method_type(at, faults, method.place, &method.input)?;
-    let output_type = method_type(at, faults, method.place, &method.output)?;
+    let output_type = output_type(at, faults, method, &input_type)?;
     let name = method.name.clone()?;
     let options = told_method_options(at, faults, &method.options)?;
     Ok(MethodDescriptorProto {
@@ -148,6 +149,30 @@ fn method_descriptor<C: CustomOptions>(
         server_streaming: method.server_streaming,
         options,
     })
+}
+
+/// The full name of the type that a method returns, where that of the one that it takes is known.
+/// E2 or E3 at the method's place where it means none, and the other has another name.
+fn output_type<C: CustomOptions>(
+    at: &Viewpoint<'_, '_, C>,
+    faults: &mut Vec<ElabError>,
+    method: &Method,
+    input_type: &str,
+) -> Result<String, AllocError>
+    requires { let env = seen_from C.customs at.now in
+        input_type.now ≡ unwrap_or (type_full_name env (string_bytes method.now.input)) [] }
+    ensures value { let env = seen_from C.customs at.now in
+        IfOk result (λ s. string_bytes s
+        ≡ unwrap_or (type_full_name env (string_bytes method.now.output)) []) }
+    ensures faults { let env = seen_from C.customs at.now in
+        let m = tree.method_syntax method.now in
+        Tells result faults.old faults.new (placed m.place
+        (if_not_told (bytes_eq m.output m.input) (type_missing env m.output))) }
+{
+    if method.output.as_str() == method.input.as_str() {
+        return String::from_str(at.alloc, input_type);
+    }
+    method_type(at, faults, method.place, &method.output)
 }
 
 /// The full name of a method's type. E2 or E3 at the place where the name means none.

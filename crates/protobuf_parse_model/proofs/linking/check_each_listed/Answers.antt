@@ -14,5 +14,5 @@ loop-file-preserved c =
           ∙ sym (append_assoc before.seen (file ∷ []) c.next.new.self);
       none = flat_map-append faults before.seen (file ∷ [])
           ∙ ap (λ fs. fs ++ (faults file ++ [])) before.none
-          ∙ ap (λ fs. fs ++ []) c.in_ok-check_if_reached.ensures.0;
+          ∙ ap (λ fs. fs ++ []) c.in_ok-check_if_reached.ensures;
     }

@@ -19,4 +19,4 @@ returns-in_err-check_file c =
 pub loop-file-preserved : goal.loop-file-preserved
 loop-file-preserved c =
     none_more (listed_faults c.args.seen.now) c.args.seen.now.reach.now c.loop-file.file-index 0
-    c.loop-file-test.true c.loop-file.invariant c.in_ok-check_file.ensures.0
+    c.loop-file-test.true c.loop-file.invariant c.in_ok-check_file.ensures

@@ -1,11 +1,11 @@
 use Rattle.std.proofs.Common.{List, flat_map, subst}
 use Rattle.protobuf_parse_model.specs.Descriptors.{Text}
-use Rattle.protobuf_parse_model.specs.Faults.{Elaborates}
+use Rattle.protobuf_parse_model.specs.Faults.{Passes}
 use Rattle.protobuf_parse_model.specs.TableParts.{name_faults}
 use Rattle.protobuf_parse_model.proofs.linking.check_file.Goals as goal
 
 pub returns : goal.returns
 returns c =
-    subst (λ (names : List Text). Elaborates {X = Unit {0}} {Y = Unit {0}} (λ u. u)
-    c.check_names.result (flat_map (name_faults c.args.seen.now) names) tt)
+    subst (λ (names : List Text). Passes c.check_names.result
+    (flat_map (name_faults c.args.seen.now) names))
     c.names_listed.ensures c.check_names.ensures
