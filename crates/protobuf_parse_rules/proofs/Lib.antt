@@ -24,3 +24,4 @@ pub mod Rising
 pub mod Covering
 pub mod Searching
 pub mod NumberReading
+pub mod NoneInUse

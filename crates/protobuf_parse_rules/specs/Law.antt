@@ -16,9 +16,13 @@ abbrev pub is_number_in_use : Rule → Bool
 is_number_in_use (rule.NumberInUse n) = true
 is_number_in_use _ = false
 
+-- none of these is C1
+abbrev pub NoneIsInUse : List Breach → Type 0
+NoneIsInUse bs = filter (λ (b : Breach). is_number_in_use b.broken.rule) bs ≡ []
+
 -- no field and no extension in the files has a number that is in use
 abbrev pub NoneInUse : List FileDescriptor → Type 0
-NoneInUse files = filter (λ (b : Breach). is_number_in_use b.broken.rule) (breaches files) ≡ []
+NoneInUse files = NoneIsInUse (breaches files)
 
 -- In each message that the files declare, its fields and the extensions of it have distinct
 -- numbers.

@@ -48,7 +48,7 @@ mod walk;
 mod words;
 
 pub use kind::NamedKind;
-pub use law::numbers_are_apart;
+pub use law::{numbers_are_apart, numbers_are_unique};
 pub use rule::Rule;
 pub use violation::Violation;
 pub use walk::violations;

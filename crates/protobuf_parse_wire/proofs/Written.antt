@@ -1,15 +1,37 @@
 -- Writing at the end, part by part.
 use Rattle.std.proofs.Common.{◌≡◌, ℕ, ◌+◌, ◌*◌, ◌/◌, ◌%◌, ◌<◌, ◌≤◌, List, [], ◌∷◌, ◌++◌, sym, ap}
 use Rattle.std.proofs.Common.{subst, ◌∙◌, append_assoc}
+use Rattle.std.proofs.Common.{Result, Ok, Err}
+use Rattle.std.specs.Result.{OnErr}
 use Rattle.std.proofs.lemmas.List.{append-nil}
 use Rattle.protobuf_parse_wire.specs.declared.kind.Kind.{Kind}
 use Rattle.protobuf_parse_wire.specs.Trees.{EntryTree, Entries, no_entries, entry}
 use Rattle.protobuf_parse_wire.specs.Kinds.{shape_of_kind, wire_type}
 use Rattle.protobuf_parse_wire.specs.Wire.{IsVarint}
 use Rattle.protobuf_parse_wire.specs.Writing.{AreWritable}
-use Rattle.protobuf_parse_wire.specs.Encoded.{varint_of, payload, encoded}
+use Rattle.protobuf_parse_wire.specs.Encoded.{BeginsWith, varint_of, payload, encoded}
 use Rattle.protobuf_parse_wire.proofs.Appending.{longer, last}
 use Rattle.protobuf_parse_wire.proofs.Encoded.{varint_unique, varint_says}
+
+-- ---- what stood there still does
+
+pub begins_self : (xs : List ℕ) → BeginsWith xs xs
+begins_self xs = ([], sym (append-nil xs))
+
+pub begins_behind : (old xs new : List ℕ) → new ≡ old ++ xs → BeginsWith old new
+begins_behind old xs new is = (xs, is)
+
+pub begins_more : (old out new : List ℕ) → BeginsWith old out → BeginsWith out new
+    → BeginsWith old new
+begins_more old out new a b =
+    (a.0 ++ b.0, b.1 ∙ ap (λ (x : List ℕ). x ++ b.0) a.1 ∙ append_assoc old a.0 b.0)
+
+-- whatever was refused
+pub if_refused : {T E P : Type 0} (r : Result T E) → P → OnErr r P
+if_refused (Ok x) p = tt
+if_refused (Err e) p = p
+
+-- ---- bytes of a varint
 
 -- one more byte
 pub more : (n r byte : ℕ) (old out : List ℕ) → 128 ≤ r → byte ≡ r % 128 + 128

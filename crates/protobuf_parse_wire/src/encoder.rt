@@ -1,13 +1,13 @@
 //! Writing entries at the end of bytes.
 
-ghost use Rattle.std.specs.Prelude.{◌≡◌, ◌+◌, ◌*◌, ◌++◌, [], OnOk, IfOk};
+ghost use Rattle.std.specs.Prelude.{◌≡◌, ◌+◌, ◌*◌, ◌++◌, [], OnOk, OnErr, IfOk};
 ghost use Rattle.protobuf_parse_wire.specs.Kinds.{InRange, shape_of_kind, wire_type};
 ghost use Rattle.protobuf_parse_wire.specs.Wire.{Spells, zigzag_of};
 ghost use Rattle.protobuf_parse_wire.specs.Writing.{AreWritable, IsWritable};
 ghost use Rattle.protobuf_parse_wire.specs.Views.{entries_view};
 ghost use Rattle.protobuf_parse_wire.specs.ViewParts.{entry_value_view};
 ghost use Rattle.protobuf_parse_wire.specs.Encoded.{varint_of, number_bytes, delimited, payload};
-ghost use Rattle.protobuf_parse_wire.specs.Encoded.{encoded};
+ghost use Rattle.protobuf_parse_wire.specs.Encoded.{BeginsWith, encoded};
 
 use crate::entry::{Entry, EntryValue};
 use crate::kind::Kind;
@@ -33,11 +33,13 @@ fn with_room(alloc: Global, entries: &[Entry]) -> Result<Vec<u8>, AllocError>
 
 /// Writes the bytes that spell the entries behind those that are there.
 ///
-/// Where memory runs out, a part of them may have been written.
+/// Where memory runs out, a part of them may have been written behind those.
 #[cycle(entry)]
+#[tactic(auto, using(crate::proofs::Written::begins_self, crate::proofs::Written::begins_behind, crate::proofs::Written::begins_more, crate::proofs::Written::if_refused))]
 pub fn encode_into(alloc: Global, out: &mut Vec<u8>, entries: &[Entry]) -> Result<(), AllocError>
     requires { AreWritable (entries_view entries.now) }
-    ensures { OnOk result (out.new.items ≡ out.old.items ++ encoded (entries_view entries.now)) }
+    ensures ok { OnOk result (out.new.items ≡ out.old.items ++ encoded (entries_view entries.now)) }
+    ensures err { OnErr result (BeginsWith out.old.items out.new.items) }
 {
     'entries: for entry in entries {
         put_varint(out, u64::from(entry.number) * 8 + wire_type_of(entry.kind))?;
@@ -47,28 +49,34 @@ pub fn encode_into(alloc: Global, out: &mut Vec<u8>, entries: &[Entry]) -> Resul
 }
 
 /// Writes the record of a message with that field number, whose bytes are written already.
+///
+/// Where memory runs out, a part of it may have been written behind what was there.
+#[tactic(auto, using(crate::proofs::Written::begins_self, crate::proofs::Written::begins_behind, crate::proofs::Written::begins_more, crate::proofs::Written::if_refused))]
 pub fn put_message(out: &mut Vec<u8>, number: u32, inside: &[u8]) -> Result<(), AllocError>
-    ensures { OnOk result
+    ensures ok { OnOk result
         (out.new.items ≡ out.old.items ++ (varint_of (number * 8 + 2) ++ delimited inside.now)) }
+    ensures err { OnErr result (BeginsWith out.old.items out.new.items) }
 {
     put_varint(out, u64::from(number) * 8 + 2)?;
     put_delimited(out, inside)
 }
 
 /// Writes the record of a number with that field number: the tag, and the number as a varint. A
-/// truth
-/// value is 0 or 1, and a signed number the 64 bits of its sign extension.
+/// truth value is 0 or 1, and a signed number the 64 bits of its sign extension.
 ///
-/// Where memory runs out, a part of it may have been written.
+/// Where memory runs out, a part of it may have been written behind what was there.
+#[tactic(auto, using(crate::proofs::Written::begins_self, crate::proofs::Written::begins_behind, crate::proofs::Written::begins_more, crate::proofs::Written::if_refused))]
 pub fn put_varint_record(out: &mut Vec<u8>, number: u32, value: u64) -> Result<(), AllocError>
-    ensures { OnOk result
+    ensures ok { OnOk result
         (out.new.items ≡ out.old.items ++ (varint_of (number * 8) ++ varint_of value)) }
+    ensures err { OnErr result (BeginsWith out.old.items out.new.items) }
 {
     put_varint(out, u64::from(number) * 8)?;
     put_varint(out, value)
 }
 
 #[cycle(entry)]
+#[tactic(auto, using(crate::proofs::Written::begins_self, crate::proofs::Written::begins_behind, crate::proofs::Written::begins_more, crate::proofs::Written::if_refused))]
 fn put_value(
     alloc: Global,
     out: &mut Vec<u8>,
@@ -76,8 +84,9 @@ fn put_value(
     value: &EntryValue,
 ) -> Result<(), AllocError>
     requires { IsWritable (shape_of_kind kind) (entry_value_view value.now) }
-    ensures { OnOk result (out.new.items
+    ensures ok { OnOk result (out.new.items
         ≡ out.old.items ++ payload (shape_of_kind kind) (entry_value_view value.now)) }
+    ensures err { OnErr result (BeginsWith out.old.items out.new.items) }
 {
     match value {
         EntryValue::Number(number) => put_number(out, kind, *number),
@@ -110,10 +119,12 @@ fn wire_type_of(kind: Kind) -> u64
     }
 }
 
+#[tactic(auto, using(crate::proofs::Written::begins_self, crate::proofs::Written::begins_behind, crate::proofs::Written::begins_more, crate::proofs::Written::if_refused))]
 fn put_number(out: &mut Vec<u8>, kind: Kind, number: i128) -> Result<(), AllocError>
     requires { InRange (shape_of_kind kind) number }
-    ensures { OnOk result
+    ensures ok { OnOk result
         (out.new.items ≡ out.old.items ++ number_bytes (shape_of_kind kind) number) }
+    ensures err { OnErr result (BeginsWith out.old.items out.new.items) }
 {
     match kind {
         Kind::Int32 | Kind::Int64 | Kind::Enum => {
@@ -141,16 +152,20 @@ fn zigzag_of(number: i64) -> u64
 }
 
 /// Writes the length of the bytes, and them.
+#[tactic(auto, using(crate::proofs::Written::begins_self, crate::proofs::Written::begins_behind, crate::proofs::Written::begins_more, crate::proofs::Written::if_refused))]
 fn put_delimited(out: &mut Vec<u8>, inside: &[u8]) -> Result<(), AllocError>
-    ensures { OnOk result (out.new.items ≡ out.old.items ++ delimited inside.now) }
+    ensures ok { OnOk result (out.new.items ≡ out.old.items ++ delimited inside.now) }
+    ensures err { OnErr result (BeginsWith out.old.items out.new.items) }
 {
     put_varint(out, inside.len() as u64)?;
     out.extend_from_slice(inside)
 }
 
 /// Writes the shortest varint.
+#[tactic(auto, using(crate::proofs::Written::begins_self, crate::proofs::Written::begins_behind, crate::proofs::Written::begins_more, crate::proofs::Written::if_refused))]
 fn put_varint(out: &mut Vec<u8>, number: u64) -> Result<(), AllocError>
-    ensures { OnOk result (out.new.items ≡ out.old.items ++ varint_of number) }
+    ensures ok { OnOk result (out.new.items ≡ out.old.items ++ varint_of number) }
+    ensures err { OnErr result (BeginsWith out.old.items out.new.items) }
 {
     let mut rest = number;
     'groups: while rest >= 128 {

@@ -6,7 +6,7 @@ use Rattle.protobuf_parse_wire.specs.Trees.{Entries, entry}
 use Rattle.protobuf_parse_wire.specs.Views.{WireItem, entries_view}
 use Rattle.protobuf_parse_wire.specs.ViewParts.{entry_value_view}
 use Rattle.protobuf_parse_wire.proofs.Appending.{entry_is}
-use Rattle.protobuf_parse_wire.proofs.Written.{Completes, goes_on, is_done}
+use Rattle.protobuf_parse_wire.proofs.Written.{Completes, begins_behind, begins_more, goes_on, is_done}
 use Rattle.protobuf_parse_wire.specs.Kinds.{shape_of_kind, wire_type}
 use Rattle.protobuf_parse_wire.proofs.encoder.+entry.Goals as goal
 
@@ -30,17 +30,22 @@ encode_into-entries-preserved t c =
     (entries_view list) c.args.out.now.items c.entries.out.items =
     subst (λ (xs : Entries). Completes xs
     (entries_view list) c.args.out.now.items c.entries.out.items) (ap entries_view step ∙ seen)
-    c.entries.invariant in
-    goes_on (c.from.result * 8 + c.wire_type_of.result) e.number e.kind (entry_value_view e.value)
+    c.entries.invariant.completes in
+    record { completes = goes_on (c.from.result * 8 + c.wire_type_of.result) e.number e.kind (entry_value_view e.value)
     (entries_view (drop (i + 1) list))
     (entries_view list) c.args.out.now.items c.entries.out.items c.put_varint.new.out.items _
-    left is c.in_ok-put_varint.ensures c.in_ok-put_value.ensures
+    left is c.in_ok-put_varint.ensures.ok c.in_ok-put_value.ensures.ok;
+      begins = begins_more c.args.out.now.items c.entries.out.items _ c.entries.invariant.begins
+          (begins_more c.entries.out.items c.put_varint.new.out.items _
+          (begins_behind c.entries.out.items _ _ c.in_ok-put_varint.ensures.ok)
+          (begins_behind c.put_varint.new.out.items _ _ c.in_ok-put_value.ensures.ok));
+    }
 
-pub encode_into-returns : goal.encode_into-returns
-encode_into-returns t c =
+pub encode_into-returns-clause-ok : goal.encode_into-returns-clause-ok
+encode_into-returns-clause-ok t c =
     let list : List Entry = c.args.entries.now in
     let past : length list ≤ c.entries.entry-index = omega arith in
     let none : drop c.entries.entry-index list ≡ [] = drop_all c.entries.entry-index list past in
     is_done (entries_view list) c.args.out.now.items c.entries.out.items
     (subst (λ (xs : List Entry). Completes (entries_view xs)
-    (entries_view list) c.args.out.now.items c.entries.out.items) none c.entries.invariant)
+    (entries_view list) c.args.out.now.items c.entries.out.items) none c.entries.invariant.completes)

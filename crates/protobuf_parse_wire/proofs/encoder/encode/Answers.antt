@@ -9,5 +9,5 @@ pub returns-clause-spells : goal.returns-clause-spells
 returns-clause-spells c =
     let es = entries_view c.args.entries.now in
     subst (Spells es)
-    (sym (c.in_ok-encode_into.ensures ∙ ap (λ xs. xs ++ encoded es) c.in_ok-out.ensures))
+    (sym (c.in_ok-encode_into.ensures.ok ∙ ap (λ xs. xs ++ encoded es) c.in_ok-out.ensures))
     (encoded_spells es c.requires)

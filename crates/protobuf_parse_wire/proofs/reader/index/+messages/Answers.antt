@@ -24,7 +24,7 @@ add_message-returns t c =
     let cloned : string_bytes c.in_ok-clone.field-0 ≡ name = c.in_ok-clone.ensures.cases in
     let put : (q : Text) → values_under a.messages q
     ≡ cond (bytes_eq q name) (values_under c.args.index.now.messages q ++ c.args.message ∷ [])
-    (values_under c.args.index.now.messages q) = λ q. rw (← cloned) (c.in_ok-put.ensures q) in
+    (values_under c.args.index.now.messages q) = λ q. rw (← cloned) (c.in_ok-put.ensures.ok q) in
     let own : IndexAdds a b []
     (map field_view (out-DescriptorProto c.args.message.now).extension.items) =
     subst (λ (es : List FieldDescriptorProto). IndexAdds a b [] (map field_view es))
