@@ -1,5 +1,5 @@
 -- Where a resolver over real folders looks for a proto path.
-use Rattle.std.specs.Prelude.{◌≡◌, ◌||◌, List, [], ◌∷◌, ◌++◌, Contains, Option, Some, None, Result}
+use Rattle.std.specs.Prelude.{◌≡◌, ◌||◌, ◌⊎◌, List, [], ◌∷◌, ◌++◌, Option, Some, None, Result}
 use Rattle.std.specs.Prelude.{Ok, Err, nat_eq, if◌then◌else◌, string_bytes}
 use Rattle.std.specs.List.{ends_with}
 use Rattle.protobuf_parse_base.specs.Characters as char
@@ -26,10 +26,21 @@ IsTriedAt file (Err (refused.CouldNotRead path)) = string_bytes path ≡ file
 IsTriedAt file (Err (refused.Refused reason)) = ⊥
 IsTriedAt file (Err refused.Memory) = Unit {0}
 
--- there is no such file in any include, or memory ran out, or one of the paths tried was answered
--- so
+-- there is no such file
+abbrev pub IsNoFile : Result (Option ResolvedProtoFile) ResolveFault → Type 0
+IsNoFile (Ok None) = Unit {0}
+IsNoFile _ = ⊥
+
+-- The answer is that of the first include that doesn't say that it has no such file, or that there
+-- is none, where each says so.
+abbrev pub IsFirstFound : (Text → Result (Option ResolvedProtoFile) ResolveFault → Type 0)
+    → List Text → Result (Option ResolvedProtoFile) ResolveFault → Type 0
+IsFirstFound May [] answer = IsNoFile answer
+IsFirstFound May (include ∷ includes) answer =
+    (May include answer × ¬ IsNoFile answer)
+    ⊎ (May include (Ok None) × IsFirstFound May includes answer)
+
+-- each include is tried in turn, at the path there, up to the first that has the file or a fault
 abbrev pub MayFind : List Text → Text → Result (Option ResolvedProtoFile) ResolveFault → Type 0
-MayFind includes path (Ok None) = Unit {0}
-MayFind includes path (Err refused.Memory) = Unit {0}
 MayFind includes path answer =
-    (include : Text) × Contains includes include × IsTriedAt (path_tried include path) answer
+    IsFirstFound (λ include found. IsTriedAt (path_tried include path) found) includes answer

@@ -2,9 +2,9 @@
 use Rattle.std.proofs.Common.{◌≡◌, ℕ, zero, suc, ◌+◌, ◌-◌, ◌<◌, ◌≤◌, true, false, List, [], ◌∷◌, length, take, drop, refl, sym, ap, ◌∙◌, subst, arith, length-drop, if◌then◌else◌, cond, Bool, ◌&&◌, ◌==◌}
 use Rattle.std.proofs.lemmas.List.{drop-drop, length-take-le}
 use Rattle.protobuf_parse_lexer.specs.Ahead.{deepens, counted}
-use Rattle.protobuf_parse_lexer.specs.Behind.{behind_piece, behind_within, behinds}
-use Rattle.protobuf_parse_lexer.specs.Behind.{StandsBefore, EachStands, no_token, one_token, EachIsFound}
-use Rattle.protobuf_parse_lexer.specs.Cut.{Cut, done, blank, token, mark_len}
+use Rattle.protobuf_parse_lexer.specs.BehindOf.{behind_piece, behind_within, behinds}
+use Rattle.protobuf_parse_lexer.specs.Behind.{StandsBefore, EachStands, no_token, one_token}
+use Rattle.protobuf_parse_lexer.specs.Cut.{Cut, done, blank, token, mark_len, HasTokens, Stream}
 use Rattle.protobuf_parse_lexer.specs.Tokens.{Lexeme}
 use Rattle.protobuf_parse_lexer.specs.declared.lexer.token.Place.{Place}
 use Rattle.protobuf_parse_lexer.specs.Scan.{Stands}
@@ -146,7 +146,9 @@ mark_within text = go text (mark_len text) (mark_fits text)
     mark_fits (a ∷ b ∷ c ∷ z) =
         if_three (a == 0xef && b == 0xbb && c == 0xbf) (length (a ∷ b ∷ c ∷ z)) (omega arith)
 
-pub each_is_found : EachIsFound
-each_is_found text s has =
+-- of a text with tokens each stands so far before its end
+pub each_stands : (text : Bytes) (s : Stream) → HasTokens text s
+    → EachStands text s.tokens (behinds 0 0 (drop (mark_len text) text))
+each_stands text s has =
     cut_stands text 0 0 (mark_len text) has.cut (λ n deep. has.shallow n (omega (arith, deep)))
     (mark_within text) refl

@@ -10,5 +10,6 @@ pub mod Quotes
 pub mod Escaping
 pub mod Lanes
 pub mod Ahead
+pub mod BehindRelations
 pub mod BehindSteps
 pub mod ShortWays

@@ -1,34 +1,30 @@
 -- How many bytes of a text stand behind each of its tokens: with the text's length, where each
 -- begins and ends.
-use Rattle.std.specs.Prelude.{◌≡◌, ◌≤◌, ℕ, zero, suc, ◌+◌, ◌-◌, List, [], ◌∷◌, if◌then◌else◌}
+use Rattle.std.specs.Prelude.{◌≡◌, ◌≤◌, ℕ, ◌+◌, ◌-◌, List, [], ◌∷◌, true, false}
 use Rattle.std.specs.Prelude.{length, take, drop, Option, Some, None}
 use Rattle.protobuf_parse_lexer.specs.Ahead.{deepens, counted}
 use Rattle.protobuf_parse_lexer.specs.Cut.{Stream, HasTokens, mark_len}
-use Rattle.protobuf_parse_lexer.specs.Text.{Bytes}
+use Rattle.protobuf_parse_lexer.specs.Text.{Bytes, IsBlank, IsToken, IsFault}
 use Rattle.protobuf_parse_lexer.specs.Tokens.{Lexeme, is_opening, is_closing}
-use Rattle.protobuf_parse_lexer.specs.Total.{total}
-use Rattle.protobuf_parse_lexer.specs.declared.lexer.front.Piece.{Piece}
-use Rattle.protobuf_parse_lexer.specs.declared.lexer.front.Piece.TheVariants as piece
+use Rattle.protobuf_parse_lexer.specs.declared.error.ParserError.{ParserError}
+use Rattle.protobuf_parse_lexer.specs.declared.lexer.token.TokenKind.{TokenKind}
 
--- where this piece stands at the front, with those of other texts
-abbrev pub behind_piece : (ℕ → ℕ → Bytes → List ℕ) → ℕ → ℕ → Bytes → Piece → List ℕ
-behind_piece more o c z piece.End = []
-behind_piece more o c z (piece.Blank n) = more o c (drop n z)
-behind_piece more o c z (piece.Token n k) =
-    if deepens o c k then []
-    else (length (drop n z)
-    ∷ more (counted (is_opening k) o) (counted (is_closing k) c) (drop n z))
-behind_piece more o c z (piece.Fault e) = []
-
--- the same of texts of less than so many bytes
-unfoldable pub behind_within : ℕ → ℕ → ℕ → Bytes → List ℕ
-behind_within zero o c z = []
-behind_within (suc n) o c z = behind_piece (behind_within n) o c z (total z).0
-
--- Behind each token that lies ahead in the text, where o brackets were opened before it and c
--- closed.
-unfoldable pub behinds : ℕ → ℕ → Bytes → List ℕ
-behinds o c z = behind_within (suc (length z)) o c z
+-- So many bytes stand behind each of the tokens that lie ahead in the text z, where o brackets were
+-- opened before it and c closed.
+pub data BehindIn : ℕ → ℕ → Bytes → List ℕ → Type 0 where
+  at_end : {o c : ℕ} {z : Bytes} → length z ≡ 0 → BehindIn o c z []
+  past_blank :
+      {o c : ℕ} {z : Bytes} {ns : List ℕ} (n : ℕ) → IsBlank z n → BehindIn o c (drop n z) ns →
+      BehindIn o c z ns
+  past_token :
+      {o c : ℕ} {z : Bytes} {ns : List ℕ} (n : ℕ) (k : TokenKind) → IsToken z n k →
+      deepens o c k ≡ false →
+      BehindIn (counted (is_opening k) o) (counted (is_closing k) c) (drop n z) ns →
+      BehindIn o c z (length (drop n z) ∷ ns)
+  at_bracket :
+      {o c : ℕ} {z : Bytes} (n : ℕ) (k : TokenKind) → IsToken z n k → deepens o c k ≡ true →
+      BehindIn o c z []
+  at_fault : {o c : ℕ} {z : Bytes} (e : ParserError) → IsFault z e → BehindIn o c z []
 
 -- the first number, if there is one
 abbrev pub first : List ℕ → Option ℕ
@@ -49,5 +45,5 @@ pub data EachStands (text : Bytes) : List Lexeme → List ℕ → Type 0 where
 
 -- Of a text with tokens each stands so far before its end as is said.
 abbrev pub EachIsFound : Type 0
-EachIsFound = (text : Bytes) (s : Stream) → HasTokens text s
-    → EachStands text s.tokens (behinds 0 0 (drop (mark_len text) text))
+EachIsFound = (text : Bytes) (s : Stream) (ns : List ℕ) → HasTokens text s
+    → BehindIn 0 0 (drop (mark_len text) text) ns → EachStands text s.tokens ns

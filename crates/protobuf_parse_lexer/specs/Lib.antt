@@ -16,6 +16,8 @@ pub mod Ahead
 pub mod AheadOf
 pub mod AheadViews
 pub mod Behind
+pub mod BehindOf
+pub mod BehindTokenizers
 pub mod BehindViews
 pub mod Tokenizers
 pub mod CutAnswers

@@ -35,7 +35,8 @@ use Rattle.protobuf_parse_options.proofs.WithoutOptions.{customs_ignore_options}
 use Rattle.protobuf_parse_run.specs.Walks.{Trees, Reaches, HandsOn, Sees, sees_itself, by_import}
 use Rattle.protobuf_parse_run.specs.Walks.{among, import_paths}
 use Rattle.protobuf_parse_run.specs.Run.{Files, FilesAreListed, StandsInElab, customs_of}
-use Rattle.protobuf_parse_run.specs.Run.{environment_of, ending_faults, faults_at, is_faulty}
+use Rattle.protobuf_parse_run.specs.Run.{IsToldAt, environment_of, ending_faults, faults_at}
+use Rattle.protobuf_parse_run.specs.Run.{is_faulty}
 use Rattle.protobuf_parse_run.specs.Run.{is_nothing, origin_given, own_faults, plains_at}
 use Rattle.protobuf_parse_run.specs.PlainRuns.{plain_of}
 use Rattle.protobuf_parse_run.specs.Run.{report_at}
@@ -44,7 +45,7 @@ use Rattle.protobuf_parse_run.specs.Loading.{Agrees, AreJoined, AreKnown, FilesA
 use Rattle.protobuf_parse_run.specs.Loading.{AreNumbersOf, LoadedEntry, IsLoaded, IsNumbered, Named}
 use Rattle.protobuf_parse_run.specs.Loading.{ElaboratesFile, ElaboratesOver, any_faulty}
 use Rattle.protobuf_parse_run.specs.Loading.{customs_over}
-use Rattle.protobuf_parse_run.specs.Loading.{ending_over, faults_over, file_at, has_faults}
+use Rattle.protobuf_parse_run.specs.Loading.{IsToldOver, ending_over, faults_over, file_at, has_faults}
 use Rattle.protobuf_parse_run.specs.Loading.{own_over, report_over, file_over, named_trees}
 use Rattle.protobuf_parse_run.specs.Loading.{paths_in, picked_descriptors, descriptor_in}
 use Rattle.protobuf_parse_run.specs.Loading.{plain_over, descriptors_next, tree_in, trees_of}
@@ -63,8 +64,8 @@ use Rattle.protobuf_parse_run.proofs.Knowing.{sees-out, sees-reaches}
 use Rattle.protobuf_parse_run.proofs.Numbers.{name_of, numbered-more, numbers-joined, only-one}
 use Rattle.protobuf_parse_run.proofs.Numbers.{path-in}
 use Rattle.protobuf_parse_run.proofs.Steps.{get-more}
-use Rattle.protobuf_parse_run.proofs.FirstFaults.{no-others, none-after, none-before, told-after}
-use Rattle.protobuf_parse_run.proofs.FirstFaults.{told-before, which-told}
+use Rattle.protobuf_parse_run.proofs.FirstFaults.{no-others, none-after, none-before}
+use Rattle.protobuf_parse_run.proofs.ToldFirst.{told-moved}
 use Rattle.protobuf_parse_run.proofs.Faulty.{any-number, any-text, at-end, entry-at, faulty-entry}
 use Rattle.protobuf_parse_run.proofs.Faulty.{number-any, same-bool, text-any}
 use Rattle.protobuf_parse_run.proofs.Reordering.{HavePackages, customs-same}
@@ -696,31 +697,34 @@ module _ (files : Files) (loaded : List LoadedEntry) (tables : Tables) (log : Li
       ∙ ap (λ (fs : List elaborating.Fault). before_others (own_faults files p (Some t))
       (if list_any (is_faulty files) (files.reached p) then [] else fs)) (customs-told-same h)
 
-  pub over-told : (f : elaborating.Fault)
-      → Among (faults_over loaded (with_next loaded t) descriptors reach sight t) f
-      → Among (faults_at files p (Some t)) f
-  over-told f m =
-      elim (which-told repeats others_over f m) [
-        | inl w ↦ told-before repeats_in (others files p t) f (repeats-told f w)
-        | inr w ↦ told-after repeats_in (others files p t) f (repeats-again w.0)
-            (subst (λ (fs : List elaborating.Fault). Among fs f)
-            (others-same (repeats-none w.0)) w.1)
-      ]
+  told-same : linked ≡ []
+      → before_others (own_over (with_next loaded t) sight t)
+      (file_faults (environment (picked (with_next loaded t) sight)
+      (customs_over descriptors reach sight) t) t)
+      ≡ before_others (own_faults files p (Some t)) (file_faults (environment_of files p t) t)
+  told-same h =
+      ap (λ (fs : List elaborating.Fault). before_others fs
+      (file_faults (environment (picked (with_next loaded t) sight)
+      (customs_over descriptors reach sight) t) t)) (own-same h)
+      ∙ ap (before_others (own_faults files p (Some t))) (customs-told-same h)
 
   pub ending-told : (gathers : Bool) (f : elaborating.Fault)
-      → Among (ending_over gathers loaded (with_next loaded t) descriptors reach sight t) f
-      → Among (ending_faults gathers files p (Some t)) f
-  ending-told true f m = repeats-told f m
-  ending-told false f m = over-told f m
+      → IsToldOver gathers loaded (with_next loaded t) descriptors reach sight t f
+      → IsToldAt gathers files p (Some t) f
+  ending-told true f h =
+      told-moved repeats repeats_in [] [] f repeats-told (λ none. (repeats-again none, refl)) h
+  ending-told false f h =
+      told-moved repeats repeats_in _ _ f repeats-told
+      (λ none. (repeats-again none, told-same (repeats-none none))) h
 
 -- a fault of elaboration stands wherever its fault does
-stands-more : (origin : Text) (firsts others : List elaborating.Fault) (f : RunFault)
-    → ((g : elaborating.Fault) → Among firsts g → Among others g) → StandsInElab origin firsts f
-    → StandsInElab origin others f
-stands-more origin firsts others (fault.Elaborate file error) more s =
+stands-more : (origin : Text) (Over At : elaborating.Fault → Type 0) (f : RunFault)
+    → ((g : elaborating.Fault) → Over g → At g) → StandsInElab origin Over f
+    → StandsInElab origin At f
+stands-more origin Over At (fault.Elaborate file error) more s =
     (s.0, more (fault_view error) s.1)
-stands-more origin firsts others (fault.Memory) more s = absurd s
-stands-more origin firsts others _ more s = absurd s
+stands-more origin Over At (fault.Memory) more s = absurd s
+stands-more origin Over At _ more s = absurd s
 
 -- what an elaboration over numbered files leaves
 pub settled-in : (gathers : Bool) (files : Files) (loaded new : List LoadedEntry)
@@ -767,9 +771,9 @@ settled-in gathers files loaded new tables after p t height read below public lo
     elim (over e found named) [
       | inl w ↦
           inl (stands-more (origin_given p (Some e.outcome))
-          (ending_over gathers loaded (with_next loaded t) (descriptors_next loaded w.1 p t) w.0 w.1
+          (IsToldOver gathers loaded (with_next loaded t) (descriptors_next loaded w.1 p t) w.0 w.1
           t)
-          (ending_faults gathers files p (Some t)) f
+          (IsToldAt gathers files p (Some t)) f
           (λ g m. ending-told files loaded tables log p t below n w.0 w.1 w.2 w.3 gathers g m) w.4)
       | inr w ↦ inr w
     ]

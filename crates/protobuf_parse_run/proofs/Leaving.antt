@@ -77,20 +77,23 @@ pub goes-same : (files : Files) (table : List (Text × Text)) (old new : List Re
     → GoesOn files table new → GoesOn files table old
 goes-same files table old new e go = subst (λ (z : List ReadEntry). GoesOn files table z) e go
 
--- L10 with a fault that is among those of the file
-pub elab-stands : (origin : Text) (faults : List elaborating.Fault) (x : elaborating.Fault)
-    (f : RunFault) → Among faults x → OrMemory f (IsElabFault origin x f)
-    → OrMemory f (StandsInElab origin faults f)
-elab-stands origin faults x f h (inr m) = inr m
-elab-stands origin faults x (fault.Elaborate file error) h (inl is) =
-    inl (is.0, subst (λ z. Among faults z) (sym is.1) h)
-elab-stands origin faults x _ h (inl is) = absurd is
+-- L10 with a fault that may be told of the file
+pub elab-stands : (origin : Text) (Told : elaborating.Fault → Type 0) (x : elaborating.Fault)
+    (f : RunFault) → Told x → OrMemory f (IsElabFault origin x f)
+    → OrMemory f (StandsInElab origin Told f)
+elab-stands origin Told x f h (inr m) = inr m
+elab-stands origin Told x (fault.Elaborate file error) h (inl is) =
+    inl (is.0, subst (λ z. Told z) (sym is.1) h)
+elab-stands origin Told x _ h (inl is) = absurd is
 
-pub stands-failing : (origin : Text) (faults : List elaborating.Fault) (f : RunFault)
-    → StandsInElab origin faults f → not (is_nothing faults) ≡ true
-stands-failing origin (x ∷ faults) f h = refl
-stands-failing origin [] (fault.Elaborate file error) h = elim h.1 [ ]
-stands-failing origin [] _ h = absurd h
+-- where one is told one stands
+pub stands-failing : (origin : Text) (Told : elaborating.Fault → Type 0)
+    (faults : List elaborating.Fault) (f : RunFault)
+    → ((g : elaborating.Fault) → Told g → not (is_nothing faults) ≡ true)
+    → StandsInElab origin Told f → not (is_nothing faults) ≡ true
+stands-failing origin Told faults (fault.Elaborate file error) some h =
+    some (fault_view error) h.1
+stands-failing origin Told faults _ some h = absurd h
 
 module _ (gathers : Bool) (legal : Legal) (files : Files) where
   pub leaves-cycle : (kept : List Event) (loaded : List LoadedEntry) (log : List ReadEntry)

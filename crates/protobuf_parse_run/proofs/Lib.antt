@@ -16,6 +16,7 @@ pub mod Numbers
 pub mod Finding
 pub mod Knowing
 pub mod Spelling
+pub mod ToldFirst
 pub mod Reordering
 pub mod Faulty
 pub mod FirstFaults

@@ -12,7 +12,8 @@ use Rattle.protobuf_parse_syntax.specs.Trees.{FileSyntax}
 use Rattle.protobuf_parse_model.specs.Descriptors.{Text, FileDescriptor}
 use Rattle.protobuf_parse_model.specs.Environment.{Customs, no_customs}
 use Rattle.protobuf_parse_model.specs.Descriptors as described
-use Rattle.protobuf_parse_model.specs.Faults.{Among, here, there, Blames, Fault, fault_view, found}
+use Rattle.protobuf_parse_model.specs.Faults.{Among, here, there, Fault, IsFirst, TellsFirst, fault_view}
+use Rattle.protobuf_parse_model.specs.Faults.{found}
 use Rattle.protobuf_parse_model.specs.Linking.{before_others}
 use Rattle.protobuf_parse_model.specs.Tables.{picked}
 use Rattle.protobuf_parse_model.specs.declared.descriptor.FileDescriptorProto.{FileDescriptorProto}
@@ -267,27 +268,27 @@ module _ (loaded : List LoadedEntry) (files : List FileSyntax) (reach sight : Li
         (subst (λ (k : Customs). file_faults (environment seen k t) t ≡ []) same none));
   }
 
-  -- the faults of the file itself
-  pub own-told : (e : ElabFailure) → Blames e (file_faults (environment seen no_customs t) t)
+  -- the first of the file itself
+  pub own-told : (e : ElabFailure) → TellsFirst e (file_faults (environment seen no_customs t) t)
       → ElaboratesTo false loaded files reach sight path t (Err e)
   own-told (failure.Memory) h = tt
   own-told (failure.Fault error) h =
       rw once (told-first (file_faults (environment seen no_customs t) t)
-      (custom_option_faults reached_descriptors seen_descriptors t) (fault_view error) h)
+      (file_faults (environment seen (customs_over descriptors reach sight) t) t)
+      (fault_view error) h)
     where
-      told-first : (firsts others : List Fault) (f : Fault) → Among firsts f
-          → Among (before_others firsts others) f
-      told-first [] others f m = absurd (nothing-in m)
+      told-first : (firsts others : List Fault) (f : Fault) → IsFirst firsts f
+          → IsFirst (before_others firsts others) f
+      told-first [] others f m = absurd m
       told-first (a ∷ firsts) others f m = m
 
-  -- and those of its custom options
+  -- and that of its custom options
   pub customs-told : (c : Customs) (e : ElabFailure) → c ≡ customs_over descriptors reach sight
       → file_faults (environment seen no_customs t) t ≡ []
-      → Blames e (file_faults (environment seen c t) t)
+      → TellsFirst e (file_faults (environment seen c t) t)
       → ElaboratesTo false loaded files reach sight path t (Err e)
   customs-told c (failure.Memory) same own h = tt
   customs-told c (failure.Fault error) same own h =
-      rw (once, own) (option-told seen reached_descriptors seen_descriptors t (fault_view error)
-      own
-      (subst (λ (k : Customs). Among (file_faults (environment seen k t) t) (fault_view error))
-      same h))
+      rw (once, own)
+      (subst (λ (k : Customs). IsFirst (file_faults (environment seen k t) t) (fault_view error))
+      same h)

@@ -23,7 +23,9 @@ use Rattle.protobuf_parse_run.specs.declared.log.ReadOutcome.{ReadOutcome}
 use Rattle.protobuf_parse_run.specs.Walks.{Asked, the_resolver, Event, load, elab, keep, among}
 use Rattle.protobuf_parse_run.specs.Walks.{Trees, import_paths, walks_joined, import_statements}
 use Rattle.protobuf_parse_run.specs.Walks.{walk}
-use Rattle.protobuf_parse_run.specs.Run.{Files, StandsInElab, ending_faults, environment_of}
+use Rattle.protobuf_parse_run.proofs.ToldFirst.{told-failing}
+use Rattle.protobuf_parse_run.specs.Run.{Files, IsToldAt, StandsInElab, ending_faults}
+use Rattle.protobuf_parse_run.specs.Run.{environment_of}
 use Rattle.protobuf_parse_run.specs.Run.{first_read, is_nothing, own_faults, report_at}
 use Rattle.protobuf_parse_run.specs.Run.{origin_given, Legal}
 use Rattle.protobuf_parse_run.specs.PlainRuns.{plain_of}
@@ -440,14 +442,18 @@ module _ (gathers : Bool) (legal : Legal) (files : Files) (kept events : List Ev
           elim (elaborates r.held.entry r.held.found r.held.named) [
             | inl stands ↦
                 let here : StandsInElab (origin_given p (first_read p files.reads))
-                (ending_faults gathers files p (files.trees p)) f =
+                (IsToldAt gathers files p (files.trees p)) f =
                 subst (λ (o : Option ReadOutcome). StandsInElab (origin_given p o)
-                (ending_faults gathers files p (files.trees p)) f) (sym r.held.first) (subst
+                (IsToldAt gathers files p (files.trees p)) f) (sym r.held.first) (subst
                 (λ (o : Option FileSyntax). StandsInElab
                 (origin_given p (Some r.held.entry.outcome))
-                (ending_faults gathers files p o) f) (sym r.held.is) stands) in
+                (IsToldAt gathers files p o) f) (sym r.held.is) stands) in
                 inl (halts-at gathers legal files r.now loaded log (chain_of [] stack ++ p ∷ []) _
-                (elab p) f r.good (stands-failing _ _ f here) refl refl here)
+                (elab p) f r.good
+                (stands-failing _ (IsToldAt gathers files p (files.trees p))
+                (ending_faults gathers files p (files.trees p)) f
+                (λ g told. told-failing gathers files p (files.trees p) g told) here)
+                refl refl here)
             | inr memory ↦ inr
                 (record {
                   memory = memory;

@@ -19,9 +19,10 @@ use Rattle.protobuf_parse_model.specs.Environment.{Customs, no_customs}
 use Rattle.protobuf_parse_model.specs.Tables.{TableTells, picked}
 use Rattle.protobuf_parse_model.specs.declared.descriptor.FileDescriptorProto.{FileDescriptorProto}
 use Rattle.protobuf_parse_model.specs.Faults as elaborating
-use Rattle.protobuf_parse_model.specs.Faults.{Blames, fault_view, found}
+use Rattle.protobuf_parse_model.specs.Faults.{fault_view, found}
 use Rattle.protobuf_parse_model.specs.Linking.{before_others, declares_name, link_faults}
 use Rattle.protobuf_parse_model.specs.declared.error.ElabFailure.{ElabFailure}
+use Rattle.protobuf_parse_model.specs.declared.error.ElabFailure.TheVariants as failure
 use Rattle.protobuf_parse_elaboration.specs.FileDescriptor.{environment, file_faults, file_of}
 use Rattle.protobuf_parse_elaboration.specs.FilesByPath.{AreDistinct}
 use Rattle.protobuf_parse_options.specs.CustomFaults.{elaboration_faults}
@@ -54,7 +55,8 @@ use Rattle.protobuf_parse_run.specs.Run.{HasTrees, OrMemory, IsTheTree, text_rea
 use Rattle.protobuf_parse_run.specs.Run.{first_read, fault_said, text_given, origin_given}
 use Rattle.protobuf_parse_run.specs.PlainRuns.{plain_of}
 use Rattle.protobuf_parse_run.specs.Run.{AreAnswered, Legal, StandsThere, StandsInLoad}
-use Rattle.protobuf_parse_run.specs.Run.{StandsInElab, IsUnparsed, ending_faults, ends, is_faulty}
+use Rattle.protobuf_parse_run.specs.Run.{StandsInElab, IsToldAt, IsToldOf, IsUnparsed, ending_faults}
+use Rattle.protobuf_parse_run.specs.Run.{ends, is_faulty}
 use Rattle.protobuf_parse_run.specs.Run.{is_nothing, own_faults, report_at}
 use Rattle.protobuf_parse_run.specs.Repeats.{repeat_place, told_at}
 
@@ -248,6 +250,21 @@ ending_over true loaded files descriptors reach sight t = repeats_over loaded fi
 ending_over false loaded files descriptors reach sight t =
     faults_over loaded files descriptors reach sight t
 
+-- which of them may be told
+abbrev pub IsToldOver : Bool → List LoadedEntry → List FileSyntax → List FileDescriptor → List ℕ
+    → List ℕ → FileSyntax → elaborating.Fault → Type 0
+IsToldOver true loaded files descriptors reach sight t f =
+    IsToldOf (repeats_over loaded files reach t) [] f
+IsToldOver false loaded files descriptors reach sight t f =
+    IsToldOf (repeats_over loaded files reach t)
+    (before_others (own_over files sight t)
+    (file_faults (environment (picked files sight) (customs_over descriptors reach sight) t) t)) f
+
+-- the failure tells one that may be told, unless memory ran out
+abbrev pub TellsSuch : ElabFailure → (elaborating.Fault → Type 0) → Type 0
+TellsSuch failure.Memory Told = Unit {0}
+TellsSuch (failure.Fault e) Told = Told (fault_view e)
+
 -- what a check tells, where it is known whether a file that it reaches has faults of its own
 abbrev pub report_over : List FileSyntax → List FileDescriptor → List ℕ → List ℕ → Bool
     → FileSyntax → List elaborating.Fault
@@ -291,14 +308,14 @@ pub record IsElaborated (gathers : Bool) (loaded : List LoadedEntry) (files : Li
   pub told : found d.faults ≡ report_over files (descriptors_over loaded files sight path t)
       reach sight (any_faulty loaded reach d.faulty) t
 
--- What a file becomes by these numbers, or a fault that stands.
+-- What a file becomes by these numbers, or the fault that is told.
 abbrev pub ElaboratesTo : Bool → List LoadedEntry → List FileSyntax → (reach sight : List ℕ) → Text
     → FileSyntax → Result ElaboratedFile ElabFailure → Type 0
 ElaboratesTo gathers loaded files reach sight path t (Ok d) =
     IsElaborated gathers loaded files reach sight path t d
 ElaboratesTo gathers loaded files reach sight path t (Err e) =
-    Blames e
-    (ending_over gathers loaded files (descriptors_over loaded files sight path t) reach sight t)
+    TellsSuch e
+    (IsToldOver gathers loaded files (descriptors_over loaded files sight path t) reach sight t)
 
 -- these are more files than were loaded
 abbrev pub MoreLoaded : List LoadedEntry → List LoadedEntry → Type 0
@@ -528,7 +545,7 @@ ElaboratesFile gathers files path tree height read log old new (Err f) = (e : Re
     → slice_get log read ≡ Some e → path_buf_text e.path ≡ path
     → OrMemory f
     (StandsInElab (origin_given path (Some e.outcome))
-    (ending_faults gathers files path (Some tree)) f)
+    (IsToldAt gathers files path (Some tree)) f)
 
 -- the trees of the loaded files, and behind them that of the next
 abbrev pub with_next : List LoadedEntry → FileSyntax → List FileSyntax
@@ -580,7 +597,7 @@ IsRefusedOver gathers origin path tree imports old f =
     OrMemory f ((reach : List ℕ) × (sight : List ℕ) × AreJoined held_as.Reach old imports reach
     × AreJoined held_as.HandedOn old imports sight
     × StandsInElab origin
-    (ending_over gathers old (with_next old tree)
+    (IsToldOver gathers old (with_next old tree)
     (descriptors_next old sight path tree) reach sight tree) f)
 
 abbrev pub ElaboratesOver : Bool → Text → FileSyntax → ℕ → ℕ → List ℕ → List ℕ → List ReadEntry

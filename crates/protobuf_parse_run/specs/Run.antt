@@ -16,7 +16,7 @@ use Rattle.protobuf_parse_model.specs.Descriptors as described
 use Rattle.protobuf_parse_model.specs.Descriptors.{Text, FileDescriptor}
 use Rattle.protobuf_parse_model.specs.Environment.{Customs, Environment}
 use Rattle.protobuf_parse_model.specs.Faults as elaborating
-use Rattle.protobuf_parse_model.specs.Faults.{Among, fault_view}
+use Rattle.protobuf_parse_model.specs.Faults.{Among, IsFirst, fault_view}
 use Rattle.protobuf_parse_model.specs.declared.descriptor.FileDescriptorProto.{FileDescriptorProto}
 use Rattle.protobuf_parse_model.specs.Environment.{no_customs}
 use Rattle.protobuf_parse_model.specs.Linking.{before_others}
@@ -199,6 +199,20 @@ ending_faults true files p (Some t) = repeat_faults files.trees files.reached p 
 ending_faults true files p None = []
 ending_faults false files p t = faults_at files p t
 
+-- Of these faults of a file the one that is told: one of the names that are declared twice, if one
+-- is, since the files that it reaches are listed in any order; else the first of the others.
+abbrev pub IsToldOf : (repeats others : List elaborating.Fault) → elaborating.Fault → Type 0
+IsToldOf [] others f = IsFirst others f
+IsToldOf (r ∷ rs) others f = Among (r ∷ rs) f
+
+-- the fault of a file that ends a run; or, where this is true, a check
+abbrev pub IsToldAt : Bool → Files → Text → Option FileSyntax → elaborating.Fault → Type 0
+IsToldAt gathers files p None f = ⊥
+IsToldAt true files p (Some t) f = IsToldOf (repeat_faults files.trees files.reached p t) [] f
+IsToldAt false files p (Some t) f =
+    IsToldOf (repeat_faults files.trees files.reached p t)
+    (before_others (own_faults files p (Some t)) (file_faults (environment_of files p t) t)) f
+
 -- which events end it
 abbrev pub ends : Bool → Files → Event → Bool
 ends gathers files (cycle p) = true
@@ -265,11 +279,11 @@ abbrev pub StandsInLong : Text → RunFault → Type 0
 StandsInLong i (fault.ImportChainTooLong input) = string_bytes input ≡ i
 StandsInLong i _ = ⊥
 
--- the fault is one of these, and names the file as faults call it
-abbrev pub StandsInElab : Text → List elaborating.Fault → RunFault → Type 0
-StandsInElab origin faults (fault.Elaborate file error) = (string_bytes file ≡ origin)
-    × Among faults (fault_view error)
-StandsInElab origin faults _ = ⊥
+-- the fault is one that may be told so, and names the file as faults call it
+abbrev pub StandsInElab : Text → (elaborating.Fault → Type 0) → RunFault → Type 0
+StandsInElab origin Told (fault.Elaborate file error) = (string_bytes file ≡ origin)
+    × Told (fault_view error)
+StandsInElab origin Told _ = ⊥
 
 -- the fault stands at the event that ends a run, or a check
 abbrev pub StandsThere : Bool → Files → Event → RunFault → Type 0
@@ -280,7 +294,7 @@ StandsThere gathers files (load asked p) =
 StandsThere gathers files (check n own p) = StandsInCheck own p (answer_at files n)
 StandsThere gathers files (elab p) =
     StandsInElab (origin_given p (answer_for files p))
-    (ending_faults gathers files p (files.trees p))
+    (IsToldAt gathers files p (files.trees p))
 
 -- the fault stands at the event that ends a run
 abbrev pub StandsAtEvent : Files → Event → RunFault → Type 0

@@ -22,7 +22,7 @@ ghost use Rattle.protobuf_parse_run.specs.Run.{input_view, origin_given, rows, t
 ghost use Rattle.protobuf_parse_run.specs.Loading.{ElaboratesTo, Grows, IndexBegins, IsDecided};
 ghost use Rattle.protobuf_parse_run.specs.Loading.{IsElabFault, IsPlaced, IsReaders, IsShadowed};
 ghost use Rattle.protobuf_parse_run.specs.Loading.{ReadsTree, ElaboratesOver, asked_by};
-ghost use Rattle.protobuf_parse_run.specs.Loading.{chain_texts, ending_over, legal_by, named_trees};
+ghost use Rattle.protobuf_parse_run.specs.Loading.{IsToldOver, chain_texts, legal_by, named_trees};
 ghost use Rattle.protobuf_parse_run.specs.Loading.{descriptors_over, descriptors_with, trees_of};
 ghost use Rattle.protobuf_parse_run.specs.Frames.{Joined, is_public_at, number_if};
 ghost use Rattle.protobuf_parse_run.specs.Calls.{CanMeet, CountsThrough, ElaboratesFrame};
@@ -682,7 +682,7 @@ fn descriptor_of(
         IfErr result (λ f. (e : ReadEntry) → slice_get loader.old.reads.items read ≡ Some e
         → path_buf_text e.path ≡ path.now
         → OrMemory f (StandsInElab (origin_given path.now (Some e.outcome))
-        (ending_over gathers loader.old.loaded.entries files
+        (IsToldOver gathers loader.old.loaded.entries files
         (descriptors_over loader.old.loaded.entries files sights.now.sight.items path.now t)
         sights.now.reach.items sights.now.sight.items t) f)) }
     ensures begins { (files : List FileSyntax) → TableTells loader.old.tables.names files

@@ -4,7 +4,7 @@ ghost use Rattle.std.specs.Prelude.{◌≡◌, ◌∷◌, [], List, IfOk, option
 ghost use Rattle.protobuf_parse_syntax.specs.Dependencies.{imported, imports};
 ghost use Rattle.protobuf_parse_syntax.specs.Trees.{FileSyntax, file_syntax, import_syntax};
 ghost use Rattle.protobuf_parse_syntax.specs.Trees.{statement_syntax};
-ghost use Rattle.protobuf_parse_model.specs.Faults.{Blames, Elaborates, fault_view};
+ghost use Rattle.protobuf_parse_model.specs.Faults.{Blames, Passes, fault_view};
 ghost use Rattle.protobuf_parse_model.specs.Tables.{TableTells};
 ghost use Rattle.protobuf_parse_run.specs.Loading.{reaches_number, repeat_place_over, repeats_over};
 ghost use Rattle.protobuf_parse_run.specs.Repeats.{completing_import, is_of_extension};
@@ -29,8 +29,8 @@ pub fn link_at_places(
     tree: &FileTree,
 ) -> Result<(), ElabFailure>
     ensures { (files : List FileSyntax) → TableTells seen.now.declarations.now files
-        → Elaborates (λ u. u) result (repeats_over loaded.now.entries files seen.now.reach.now
-        (file_syntax tree.now)) tt }
+        → Passes result (repeats_over loaded.now.entries files seen.now.reach.now
+        (file_syntax tree.now)) }
 {
     match link(alloc, seen) {
         Ok(()) => Ok(()),

@@ -6,6 +6,7 @@ ghost use Rattle.protobuf_parse.specs.Includes.{includes_text, part_views};
 ghost use Rattle.protobuf_parse.specs.Folders.{IsTriedAt, MayFind, path_tried};
 
 use crate::parser::includes::list_includes;
+use crate::parser::search::{LooksInIncludes, first_found};
 use protobuf_parse_base::proto_path::ProtoPath;
 use protobuf_parse_run::{
     InputReader, ProtoPathResolver, ReadInputFault, ResolveFault, ResolvedProtoFile,
@@ -83,13 +84,20 @@ impl<'r, R: Files + AllocGlobal> ProtoPathResolver for FsResolver<'r, R> {
         alloc: Global,
         path: ProtoPath<'_>,
     ) -> Result<Option<ResolvedProtoFile>, ResolveFault> {
-        for include in &self.includes {
-            match look_in(self.rt, alloc, include, path) {
-                Ok(None) => {}
-                found => return found,
-            }
-        }
-        Ok(None)
+        first_found(self, alloc, &self.includes, path)
+    }
+}
+
+impl<'r, R: Files + AllocGlobal> LooksInIncludes for FsResolver<'r, R> {
+    ghost may_find = { λ _ include path answer. IsTriedAt (path_tried include path) answer };
+
+    fn look_in(
+        &self,
+        alloc: Global,
+        include: &str,
+        path: ProtoPath<'_>,
+    ) -> Result<Option<ResolvedProtoFile>, ResolveFault> {
+        look_in(self.rt, alloc, include, path)
     }
 }
 

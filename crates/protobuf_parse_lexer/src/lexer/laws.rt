@@ -1,6 +1,7 @@
 //! Laws of the definitions that the lexer's contracts cite. The functions do nothing.
 
 ghost use Rattle.protobuf_parse_lexer.specs.Behind.{EachIsFound};
+ghost use Rattle.protobuf_parse_lexer.specs.BehindViews.{OneLiesBehind};
 ghost use Rattle.protobuf_parse_lexer.specs.Tokenizers.{OneLiesAhead};
 ghost use Rattle.protobuf_parse_lexer.specs.Laws.{IsOneCut, IsOneFault, IsOneDecoding};
 ghost use Rattle.protobuf_parse_lexer.specs.Laws.{TextsTellKinds};
@@ -54,7 +55,9 @@ pub fn one_stream_lies_ahead()
     ensures { OneLiesAhead }
 {}
 
-/// Where each token of a text stands in it, in bytes.
+/// Where each token of a text stands in it, in bytes, and that each tokenizer has one list of how
+/// many bytes stand behind its tokens.
 pub fn tokens_are_found()
-    ensures { EachIsFound }
+    ensures found { EachIsFound }
+    ensures one { OneLiesBehind }
 {}

@@ -1,11 +1,11 @@
 //! Tokens that are cut one by one.
 
 ghost use Rattle.std.specs.Prelude.{◌≡◌, ◌≤◌, ◌<◌, ◌+◌, ◌-◌, ◌^◌, ◌⊎◌, ℕ, length, true, false};
-ghost use Rattle.std.specs.Prelude.{IfOk, IfErr, IfSome, MatchOption, [], drop};
+ghost use Rattle.std.specs.Prelude.{IfOk, IfErr, IfSome, List, MatchOption, [], drop};
 ghost use Rattle.protobuf_parse_lexer.specs.Text.{IsToken};
 ghost use Rattle.protobuf_parse_lexer.specs.Ahead.{deepens, counted};
 ghost use Rattle.protobuf_parse_lexer.specs.AheadOf.{ahead};
-ghost use Rattle.protobuf_parse_lexer.specs.Behind.{behinds};
+ghost use Rattle.protobuf_parse_lexer.specs.BehindOf.{behinds};
 ghost use Rattle.protobuf_parse_lexer.specs.Classes as class;
 ghost use Rattle.protobuf_parse_lexer.specs.Tokens as tokens;
 
@@ -87,8 +87,9 @@ impl<'text> Tokenizer<'text> {
     ghost use Rattle.std.specs.Prelude.{◌↔◌};
     ghost use Rattle.protobuf_parse_lexer.specs.Ahead.{behind, ends_at, nowhere, AheadIn};
     ghost use Rattle.protobuf_parse_lexer.specs.AheadViews.{lies_ahead};
-    ghost use Rattle.protobuf_parse_lexer.specs.Behind.{first};
-    ghost use Rattle.protobuf_parse_lexer.specs.BehindViews.{behinds_ahead};
+    ghost use Rattle.protobuf_parse_lexer.specs.Behind.{BehindIn, first};
+    ghost use Rattle.protobuf_parse_lexer.specs.BehindTokenizers.{behinds_ahead};
+    ghost use Rattle.protobuf_parse_lexer.specs.BehindViews.{LiesBehind};
     ghost use Rattle.protobuf_parse_lexer.specs.Cut.{Stream, HasTokens, IsRefused, error_place};
     ghost use Rattle.protobuf_parse_lexer.specs.Cut.{mark_len};
     ghost use Rattle.protobuf_parse_lexer.specs.Place.{start};
@@ -110,8 +111,8 @@ impl<'text> Tokenizer<'text> {
             → length s.tokens ≤ length text.now) }
 
         // So many bytes stand behind each.
-        ensures behinds { IfOk result (λ t. behinds_ahead t
-            ≡ behinds 0 0 (drop (mark_len text.now) text.now)) }
+        ensures behinds { IfOk result (λ t. (ns : List ℕ) → LiesBehind t ns
+            ↔ BehindIn 0 0 (drop (mark_len text.now) text.now) ns) }
 
         // What is too long is refused.
         ensures refused { IfErr result (λ e. IsRefused text.now e.error (error_place e)) }
@@ -146,7 +147,8 @@ impl<'text> Tokenizer<'text> {
 
     /// How many bytes of the text stand behind the next token.
     pub fn bytes_behind(&self) -> usize
-        ensures { IfSome self.now.next (λ t. first (behinds_ahead self.now) ≡ Some result) }
+        ensures { IfSome self.now.next (λ t. (ns : List ℕ) → LiesBehind self.now ns
+            → first ns ≡ Some result) }
     {
         self.rest.len()
     }
@@ -154,7 +156,8 @@ impl<'text> Tokenizer<'text> {
     /// Goes past the next token, if one is left.
     pub fn advance(&mut self)
         ensures tokens { (s : Stream) → LiesAhead self.old s → LiesAhead self.new (behind s) }
-        ensures behinds { behinds_ahead self.new ≡ drop 1 (behinds_ahead self.old) }
+        ensures behinds { (ns : List ℕ) → LiesBehind self.old ns
+            → LiesBehind self.new (drop 1 ns) }
     {
         self.go_past()
     }

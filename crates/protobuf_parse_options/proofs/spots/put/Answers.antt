@@ -29,4 +29,4 @@ returns g c =
     (ap (λ p. at p (get_by_text c.in_ok-positions.field-0)) path
     ∙ ap (at k.path.items) (fun_ext c.in_ok-positions.ensures))
     c.in_ok-clone.ensures.cases (h name))
-    c.put.ensures
+    c.put.ensures.ok

@@ -20,4 +20,4 @@ returns c =
     ∙ ap (λ (n : ℕ). old ++ (varint_of (n * 8 + 2) ++ delimited c.args.inside.now)) number
     ∙ ap (λ (bs : List ℕ). old ++ (varint_of (nat_abs f.number * 8 + 2) ++ delimited bs)) is
     ∙ ap (λ (bs : List ℕ). old ++ bs) (sym (message_bytes f items c.requires)))
-    c.put_message.ensures
+    c.put_message.ensures.ok

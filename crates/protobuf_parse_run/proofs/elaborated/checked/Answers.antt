@@ -20,7 +20,7 @@ returns-clause-elaborates c files told =
     let descriptors = descriptors_over loaded files sight c.args.path.now t in
     let below = list_any (λ (n : ℕ). has_faults (slice_get loaded n)) reach in
     let once : repeats_over loaded files reach t
-    ≡ [] = ((rw c.deref-2.ensures.value at c.in_ok-link_at_places.ensures) files told).0 in
+    ≡ [] = ((rw c.deref-2.ensures.value at c.in_ok-link_at_places.ensures) files told) in
     let value = (rw c.deref.ensures.value at c.in_ok-plain.ensures.value) files told in
     let added = (rw c.deref.ensures.value at c.in_ok-plain.ensures.faults) files told in
     let own : found c.elaborate_all.new.faults ≡ own_over files sight t = added

@@ -11,7 +11,7 @@ pub returns-in_ok-descriptor-clause-elaborates : goal.returns-in_ok-descriptor-c
 returns-in_ok-descriptor-clause-elaborates c files told =
     let reach = c.args.sights.now.reach.items in
     let once : repeats_over c.args.loaded.now.entries files reach (file_syntax c.args.tree)
-    ≡ [] = ((rw c.deref-2.ensures.value at c.in_ok-link_at_places.ensures) files told).0 in
+    ≡ [] = ((rw c.deref-2.ensures.value at c.in_ok-link_at_places.ensures) files told) in
     let own = (rw c.deref.ensures.value at c.in_ok-descriptor.ensures) files told in
     none-set c.args.loaded.now.entries files reach c.args.sights.now.sight.items c.args.path.now
     (file_syntax c.args.tree) once c.in_ok-descriptor.descriptor c.new.result
@@ -26,7 +26,7 @@ pub returns-in_err-descriptor-clause-elaborates : goal.returns-in_err-descriptor
 returns-in_err-descriptor-clause-elaborates c files told =
     let reach = c.args.sights.now.reach.items in
     let once : repeats_over c.args.loaded.now.entries files reach (file_syntax c.args.tree)
-    ≡ [] = ((rw c.deref-2.ensures.value at c.in_ok-link_at_places.ensures) files told).0 in
+    ≡ [] = ((rw c.deref-2.ensures.value at c.in_ok-link_at_places.ensures) files told) in
     let e = err_from_is_err_and c.from_residual-in_err-descriptor.result
     c.from_residual-in_err-descriptor.ensures.1 in
     rw (e.1, e.2)

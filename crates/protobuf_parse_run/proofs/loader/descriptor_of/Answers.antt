@@ -2,7 +2,7 @@ use Rattle.std.proofs.Common.{inr, refl, Some}
 use Rattle.protobuf_parse_syntax.specs.Trees.{file_syntax}
 use Rattle.protobuf_parse_model.specs.Faults.{fault_view}
 use Rattle.protobuf_parse_run.specs.Run.{origin_given}
-use Rattle.protobuf_parse_run.specs.Loading.{ending_over, descriptors_over}
+use Rattle.protobuf_parse_run.specs.Loading.{IsToldOver, descriptors_over}
 use Rattle.protobuf_parse_run.proofs.Leaving.{elab-stands}
 use Rattle.protobuf_parse_run.proofs.loader.descriptor_of.Goals as goal
 
@@ -19,7 +19,7 @@ returns-in-Err-Fault-clause-err c files told e found named =
     let descriptors =
     descriptors_over c.args.loader.now.loaded.entries files sight c.args.path.now t in
     elab-stands (origin_given c.args.path.now (Some e.outcome))
-    (ending_over c.args.gathers c.args.loader.now.loaded.entries files descriptors
+    (IsToldOver c.args.gathers c.args.loader.now.loaded.entries files descriptors
     c.args.sights.now.reach.items sight t)
     (fault_view c.in-Err-Fault.error) c.refused.result
     (rw c.in-Err-Fault.field-0-is at (c.in-Err-Fault.ensures.elaborates files told))

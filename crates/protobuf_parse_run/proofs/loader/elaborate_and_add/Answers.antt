@@ -4,7 +4,7 @@ use Rattle.std.proofs.lemmas.Result.{err_from_is_err_and}
 use Rattle.protobuf_parse_syntax.specs.Trees.{file_syntax}
 use Rattle.protobuf_parse_model.specs.Descriptors.{FileDescriptor, Text}
 use Rattle.protobuf_parse_run.specs.Run.{StandsInElab, origin_given}
-use Rattle.protobuf_parse_run.specs.Loading.{IndexBegins, ElaboratesTo, Named, ending_over}
+use Rattle.protobuf_parse_run.specs.Loading.{IndexBegins, ElaboratesTo, IsToldOver, Named}
 use Rattle.protobuf_parse_run.specs.Loading.{named_trees}
 use Rattle.protobuf_parse_run.specs.Loading.{descriptor_in, descriptors_next, trees_of, with_next}
 use Rattle.protobuf_parse_run.specs.declared.loader.LoadedFile.{LoadedFile}
@@ -83,7 +83,7 @@ returns-in_err-elaborated-clause-elaborates c told =
       | inl w ↦
           let stands = subst
           (λ (z : Text). StandsInElab (origin_given z (Some e.outcome))
-          (ending_over c.args.gathers loaded (with_next loaded t)
+          (IsToldOver c.args.gathers loaded (with_next loaded t)
           (descriptors_next loaded sights.sight.items z t) sights.reach.items sights.sight.items t)
           c.in_err-elaborated.field-0.0) c.deref.ensures w in
           inl (

@@ -14,7 +14,7 @@ returns-in-Ok c = λ files tells.
     let none = c.in-Ok.ensures files tells in
     let place = repeat_place_over c.args.loaded.now.entries files reach
     (file_syntax c.args.tree.now) in
-    (ap (map (told_at place)) none.0, none.1)
+    ap (map (told_at place)) none
 
 pub returns-in-Err-Fault : goal.returns-in-Err-Fault
 returns-in-Err-Fault c = λ files tells.

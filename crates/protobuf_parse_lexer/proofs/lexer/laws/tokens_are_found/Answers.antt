@@ -1,5 +1,8 @@
-use Rattle.protobuf_parse_lexer.proofs.BehindSteps.{each_is_found}
+use Rattle.protobuf_parse_lexer.proofs.BehindRelations.{each_is_found, one_lies_behind}
 use Rattle.protobuf_parse_lexer.proofs.lexer.laws.tokens_are_found.Goals as goal
 
-pub returns : goal.returns
-returns c = each_is_found
+pub returns-clause-found : goal.returns-clause-found
+returns-clause-found c = each_is_found
+
+pub returns-clause-one : goal.returns-clause-one
+returns-clause-one c = one_lies_behind

@@ -2,7 +2,7 @@ use Rattle.std.proofs.Common.{◌≡◌, ◌≤◌, ◌+◌, length}
 use denote.Text.{Utf8}
 use denote.Shadow.{shadow}
 use Rattle.protobuf_parse_lexer.specs.AheadOf.{ahead}
-use Rattle.protobuf_parse_lexer.specs.Behind.{behinds}
+use Rattle.protobuf_parse_lexer.specs.BehindOf.{behinds}
 use Rattle.protobuf_parse_lexer.proofs.lexer.tokenizer.Tokenizer.cut_any.Given as goal
 
 -- the same lies ahead of the rest

@@ -6,6 +6,8 @@ use Rattle.protobuf_parse_lexer.specs.Tokenizers.{LiesAhead}
 use Rattle.protobuf_parse_lexer.specs.Ahead.{nowhere}
 use Rattle.protobuf_parse_lexer.proofs.Ahead.{ahead_whole, tokens_ahead, few_in_text}
 use Rattle.protobuf_parse_lexer.proofs.Ahead.{lies_ahead_is, lies_ahead_only, text_ahead}
+use Rattle.protobuf_parse_lexer.specs.BehindOf.{behinds}
+use Rattle.protobuf_parse_lexer.proofs.BehindRelations.{text_behind}
 use Rattle.protobuf_parse_lexer.proofs.lexer.tokenizer.Tokenizer.new.Goals as goal
 
 pub returns-clause-text : goal.returns-clause-text
@@ -33,3 +35,8 @@ returns-clause-few c = λ s h.
     (sym (c.cut_next.ensures.tokens ∙ ap (ahead 0 0 start) c.past_mark.ensures.rest)
     ∙ lies_ahead_only c.cut_next.new.self s h)
     (few_in_text c.args.text.now)
+
+pub returns-clause-behinds : goal.returns-clause-behinds
+returns-clause-behinds c =
+    text_behind c.cut_next.new.self 0 0 (drop (mark_len c.args.text.now) c.args.text.now)
+    (c.cut_next.ensures.behinds ∙ ap (behinds 0 0) c.past_mark.ensures.rest)
