@@ -48,9 +48,8 @@ fits-step n m t ts turns h k deep =
 
 -- ---- parts
 
--- A part that stands where n brackets are open leaves m open, and what it says has the property, if
--- no
--- front of all the tokens leaves over 100 open.
+-- A part that stands where n brackets are open leaves m open, and what it says has the property,
+-- if no front of all the tokens leaves over 100 open.
 pub record Keeps {A : Type 0} (n m : ℕ) (R : List Lexeme → A → Type 0)
     (P : A → Type 0) : Type 0 where
   pub keep : (ts rest : List Lexeme) (a : A) → R ts a → Fits n (ts ++ rest) → Fits m rest × P a

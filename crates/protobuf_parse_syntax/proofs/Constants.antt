@@ -102,7 +102,11 @@ module _ (c : ℕ) (says : Lexeme → Option ℕ) (f : ℕ → ℤ)
       → starts lexicon (symbol_class c ∷ []) ts ≡ true → floats_second ts ≡ true
       → Fails (Fault error.FloatConstant) ts ((signed_by c says f law).run ts)
   sign_fails ts is h e =
-      inr (off ts, sign_wrong ts h e, inr ([], refl, inl (refl, tells_at ts is h e)))
+      inr (
+        off ts,
+        sign_wrong ts h e,
+        inr ([], refl, ([], [], refl, inl (refl, tells_at ts is h e))),
+      )
 
 pub plus_absent : (ts : Rest Lexeme Place) → starts lexicon (symbol_class 43 ∷ []) ts ≡ false
     → plus.run ts ≡ stuck ts

@@ -1,6 +1,7 @@
 -- What the reader of a file gives, said of the grammar.
 use Rattle.std.proofs.Common.{◌≡◌, ℕ, ◌+◌, List, [], ◌∷◌, ◌++◌, true, false, add-zero}
 use Rattle.std.proofs.Common.{refl, sym, ap, subst, ◌∙◌, inl, inr, ◌⊎◌}
+use Rattle.std.proofs.lemmas.List.{append-nil}
 use Rattle.protobuf_parse_grammar.specs.Readers.{deep, Rest, end, token, onto, onto-append, read}
 use Rattle.protobuf_parse_grammar.specs.Readers.{stuck}
 use Rattle.protobuf_parse_grammar.specs.Readers.{wrong, Begins, starts}
@@ -27,10 +28,12 @@ use Rattle.protobuf_parse_syntax.specs.Productions as parse
 use Rattle.protobuf_parse_syntax.specs.Nested as nest
 use Rattle.protobuf_parse_syntax.specs.Readings.{steady-near}
 use Rattle.protobuf_parse_syntax.specs.Parsing.{NoTree, StandsAt, LargeToken}
-use Rattle.protobuf_parse_syntax.specs.Parsing.{EndsWithParts}
+use Rattle.protobuf_parse_syntax.specs.Parsing.{EndsWithParts, EndsWithImport, SyntaxHead}
 use Rattle.protobuf_parse_syntax.specs.Parsing.{NextPart, Floats, StandsBehind, WrongStrings}
 use Rattle.protobuf_parse_syntax.specs.Parsing.{SaysNothing, IsGrammarFault}
-use Rattle.protobuf_parse_syntax.specs.Code.{Stands, Says, Tells, Fails, NoVersion, Failure, failed}
+use Rattle.protobuf_parse_syntax.specs.Code.{Stands, Says, Tells, Fails, Failure, failed, IsWrong}
+use Rattle.protobuf_parse_syntax.specs.Code.{NoVersion, NoOption, NoPath, NoName, of_path}
+use Rattle.protobuf_parse_syntax.specs.Code.{of_version}
 use Rattle.protobuf_parse_syntax.specs.Code.{SaysNot, SignedFloat, IsLargeNext, comes, begins_part}
 use Rattle.protobuf_parse_syntax.specs.Code.{is_end, RefusesFile, error_at}
 use Rattle.protobuf_parse_syntax.specs.declared.parser.refusal.Refusal.{Refusal}
@@ -252,18 +255,71 @@ module _ (ts : List Lexeme) (m : Place) (n : ℕ) where
     strings_at_fault e used after parts behind says =
         strings_at ts used m e after says.1 says.0 parts says.2 behind says.3
 
+    -- strings say nothing behind what an import, or a reserved name, stands behind
+    module _ (e : ParserError) (before part used : List Lexeme) (after : Rest Lexeme Place)
+        (none : NoTree ts) (parts : whole ts m ≡ onto used after) (is : used ≡ before ++ part)
+      where
+        behind_head : (head back : List Lexeme) → part ≡ head ++ back → back ≡ []
+            → used ≡ before ++ head
+        behind_head head back f g = is ∙ ap (λ (v : List Lexeme). before ++ v)
+            (f ∙ ap (λ (v : List Lexeme). head ++ v) g ∙ append-nil head)
+
+        path_fault : NoPath e part after → IsGrammarFault ts m e (mark_of place_of after)
+        path_fault (head, back, f, vis, (faults, g, says)) = go faults
+          where
+            ends : EndsWithImport used
+            ends = (before, head, vis.0, behind_head head back f g, vis.1)
+
+            go : of_path e → IsGrammarFault ts m e (mark_of place_of after)
+            go (inl x) =
+                rw x (
+                  none,
+                  strings_at_fault error.StrLitDecode used after parts (inr (inl ends))
+                      (rw x at says),
+                )
+            go (inr x) =
+                rw (x.1) (
+                  none,
+                  strings_at_fault (error.BadImportPath x.0) used after parts ends
+                      (rw (x.1) at says),
+                )
+
+        name_fault : NoName e part after → IsGrammarFault ts m e (mark_of place_of after)
+        name_fault (head, back, f, names, (x, g, says)) =
+            rw x (
+              none,
+              strings_at_fault error.StrLitDecode used after parts
+                  (inr (inr (before, head, names.0, behind_head head back f g, names.1)))
+                  (rw x at says),
+            )
+
+        option_fault : NoOption e part after → IsGrammarFault ts m e (mark_of place_of after)
+        option_fault (head, name, f, starts, (x, hundred, begins)) =
+            rw x (
+              none,
+              part_at ts used m after parts (
+                before,
+                head,
+                name,
+                is ∙ ap (λ (v : List Lexeme). before ++ v) f,
+                starts,
+                hundred,
+              )
+                  begins,
+            )
+
     -- the part that begins there has the fault
     wrong_fault : (e : ParserError) (used : List Lexeme) (after : Rest Lexeme Place) → NoTree ts
         → whole ts m ≡ onto used after → Says e used after
         → IsGrammarFault ts m e (mark_of place_of after)
-    wrong_fault e used after no_tree parts (inl h) =
-        rw (h.0) (no_tree, sign_at ts used m after parts h.1)
-    wrong_fault e used after no_tree parts (inr (inl h)) =
-        rw (h.0) (no_tree, part_at ts used m after parts h.1 h.2)
-    wrong_fault e used after no_tree parts (inr (inr (inl h))) =
-        rw (h.0) (no_tree, strings_at_fault error.StrLitDecode used after parts h.1 h.2)
-    wrong_fault e used after no_tree parts (inr (inr (inr h))) =
-        rw (h.1) (no_tree, strings_at_fault (error.BadImportPath h.0) used after parts h.2 h.3)
+    wrong_fault e used after none parts (before, part, is, inl h) =
+        rw (h.0) (none, sign_at ts used m after parts h.1)
+    wrong_fault e used after none parts (before, part, is, inr (inl h)) =
+        option_fault e before part used after none parts is h
+    wrong_fault e used after none parts (before, part, is, inr (inr (inl h))) =
+        path_fault e before part used after none parts is h
+    wrong_fault e used after none parts (before, part, is, inr (inr (inr h))) =
+        name_fault e before part used after none parts is h
 
     here_fault : (e : ParserError) (after : Rest Lexeme Place) (f : Failure)
         → (nest.files n).low.run (whole ts m) ≡ failed f → Tells e after f
@@ -278,20 +334,40 @@ module _ (ts : List Lexeme) (m : Place) (n : ℕ) where
         (l.1 ∙ sym (onto-append l.0 t.0 after)) (says_behind e l.0 t.0 after t.2)
 
     -- the string of `syntax` says no version
+    version_at : (e : ParserError) (used : List Lexeme) (after : Rest Lexeme Place) → NoTree ts
+        → whole ts m ≡ onto used after → NoVersion e used after
+        → IsGrammarFault ts m e (mark_of place_of after)
+    version_at e used after none parts (head, back, f, is, (faults, g, says)) = go faults
+      where
+        heads : SyntaxHead used tt
+        heads =
+            subst (λ (v : List Lexeme). SyntaxHead v tt)
+            (sym (f ∙ ap (λ (v : List Lexeme). head ++ v) g ∙ append-nil head)) is
+
+        go : of_version e → IsGrammarFault ts m e (mark_of place_of after)
+        go (inl x) =
+            rw x (
+              none,
+              strings_at_fault error.StrLitDecode used after parts (inl heads) (rw x at says),
+            )
+        go (inr x) =
+            rw x (
+              none,
+              strings_at_fault error.UnknownSyntax used after parts heads (rw x at says),
+            )
+
     version_fault : (e : ParserError) (after : Rest Lexeme Place)
-        → NoVersion (whole ts m) (Fault e) after ((nest.files n).low.run (whole ts m))
+        → IsWrong NoVersion (whole ts m) (Fault e) after ((nest.files n).low.run (whole ts m))
         → IsGrammarFault ts m e (mark_of place_of after)
     version_fault e after h =
-        let k = h.2 in
-        let same : e ≡ error.UnknownSyntax = same_fault e error.UnknownSyntax h.0 in
-        rw same (
-          none_if_wrong (whole ts m) h.1,
-          strings_at_fault error.UnknownSyntax k.0 after k.1 k.2 k.3,
-        )
+        let same : e ≡ h.0 = same_fault e h.0 h.1 in
+        let w = h.2 in
+        let u = h.3 in
+        rw same (version_at h.0 u.0 after (none_if_wrong w.0 w.1) u.1 u.2)
 
     pub refused : (e : Refusal) (after : Rest Lexeme Place)
         → Fails e after ((nest.files n).low.run (whole ts m))
-        ⊎ NoVersion (whole ts m) e after ((nest.files n).low.run (whole ts m))
+        ⊎ IsWrong NoVersion (whole ts m) e after ((nest.files n).low.run (whole ts m))
         → RefusesFile ts m e (mark_of place_of after)
     refused Memory after h = tt
     refused (Fault e) after (inl (inl h)) = next_fault e after h.0 h.1

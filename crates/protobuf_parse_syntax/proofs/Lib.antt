@@ -1,5 +1,4 @@
 mod File
-mod LongNames
 pub mod Sizes
 pub mod Counting
 pub mod Counts
@@ -18,6 +17,9 @@ pub mod Loops
 pub mod Views
 pub mod Failures
 pub mod Wrongs
+pub mod Lists
+pub mod TextFaults
+pub mod OptionFaults
 pub mod NeverWrong
 pub mod Constants
 pub mod Versions

@@ -16,18 +16,16 @@ use Rattle.protobuf_parse_syntax.specs.Trees as tree
 use Rattle.protobuf_parse_syntax.specs.Trees.{OptionPartSyntax, OptionNameSyntax}
 use Rattle.protobuf_parse_syntax.specs.ClassLaws.{lexicon}
 use Rattle.protobuf_parse_syntax.specs.Grammar.{IsNextPart, option_name}
-use Rattle.protobuf_parse_syntax.specs.Readings.{wrong_from}
 use Rattle.protobuf_parse_syntax.specs.Productions as parse
 use Rattle.protobuf_parse_syntax.specs.Productions.{option_part, option_part_firsts, next_part}
 use Rattle.protobuf_parse_syntax.specs.Productions.{parts_up_to}
 use Rattle.protobuf_parse_syntax.specs.Code.{Failure, at, off, too_deep, failed, comes, begins_part}
-use Rattle.protobuf_parse_syntax.specs.Code.{Fails, TooMany, LongName, fails_first}
+use Rattle.protobuf_parse_syntax.specs.Code.{Fails, TooMany, IsWrong, LongName, fails_first}
 use Rattle.protobuf_parse_syntax.specs.Parsing.{HundredParts}
 use Rattle.protobuf_parse_syntax.specs.declared.parser.refusal.Refusal.{Refusal}
 use Rattle.protobuf_parse_syntax.specs.declared.parser.refusal.Refusal.TheVariants.{Memory, Fault}
 use Rattle.protobuf_parse_syntax.proofs.Failures.{failed_as, never_failed}
 use Rattle.protobuf_parse_syntax.proofs.NeverWrong.{next_part_wrong}
-use Rattle.protobuf_parse_syntax.proofs.Wrongs.{fails_from_first}
 
 abbrev Parts : Type 0
 Parts = List OptionPartSyntax
@@ -289,30 +287,29 @@ first_wrong first deep after e = absurd cc
 
 module _ (ts us : Rest Lexeme Place) (first : OptionPartSyntax)
     (is : option_part.run ts ≡ read first us) where
-  behind_first : parse.option_name_parts.run ts ≡ named first ((parts_up_to 99).run us)
-  unfolding parse.option_name_parts
+  behind_first : parse.option_name.run ts ≡ named first ((parts_up_to 99).run us)
+  unfolding parse.option_name
   behind_first = rw is refl
 
   -- a name of more than one part
   pub name_of_parts : (vs : Rest Lexeme Place) (all : Parts) → dotted us
       → with_first first ((parts_up_to 99).run us) ≡ read all vs
       → parse.option_name.run ts ≡ read (tree.custom all) vs
-  name_of_parts vs all dot e =
-      ap (wrong_from ts) (behind_first ∙ named_more 98 us vs first all dot e)
+  name_of_parts vs all dot e = behind_first ∙ named_more 98 us vs first all dot e
 
   -- a name of one part
   pub name_of_one : starts lexicon (symbol 46 ∷ []) us ≡ false
       → parse.option_name.run ts ≡ read (option_name first []) us
-  name_of_one no_dot = ap (wrong_from ts) (behind_first ∙ ap (named first) (parts_end 99 us no_dot))
+  name_of_one no_dot = behind_first ∙ ap (named first) (parts_end 99 us no_dot)
 
   -- a name of which the other parts could not be read, or are too many
   pub fails_at_parts : (e : Refusal) (after : Rest Lexeme Place)
       → Fails e after (with_first first ((parts_up_to 99).run us))
       ⊎ TooMany e after (with_first first ((parts_up_to 99).run us))
-      → Fails e after (parse.option_name.run ts) ⊎ LongName ts e after (parse.option_name.run ts)
+      → Fails e after (parse.option_name.run ts)
+      ⊎ IsWrong LongName ts e after (parse.option_name.run ts)
   fails_at_parts e after (inl h) =
-      inl (fails_from_first parse.option_name_parts e ts after
-      (rw behind_first (fails_named first e after ((parts_up_to 99).run us) h)))
+      inl (rw behind_first (fails_named first e after ((parts_up_to 99).run us) h))
   fails_at_parts e after (inr h) =
       let w = first_wrong first ((parts_up_to 99).run us) after h.1 in
       let b = parts_wrong 99 us after w in
@@ -334,15 +331,14 @@ module _ (ts us : Rest Lexeme Place) (first : OptionPartSyntax)
         dotted = rw (b.6) refl;
       } in
       inr (
+        error.OptionNameTooLong,
         h.0,
-        ap (wrong_from ts) (behind_first ∙ ap (named first) w),
-        (used, parts, hundred, h.2),
+        (after, behind_first ∙ ap (named first) w),
+        (used, parts, (refl, hundred, h.2)),
       )
 
 -- a name of which the first part could not be read
 pub fails_at_first : (e : Refusal) (ts after : Rest Lexeme Place)
     → Fails e after (option_part.run ts) → Fails e after (parse.option_name.run ts)
-unfolding parse.option_name_parts
-fails_at_first e ts after h =
-    fails_from_first parse.option_name_parts e ts after
-    (fails_first e after (option_part.run ts) _ h)
+unfolding parse.option_name
+fails_at_first e ts after h = fails_first e after (option_part.run ts) _ h

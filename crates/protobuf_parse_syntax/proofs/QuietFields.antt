@@ -2,7 +2,8 @@
 -- are left, less those that are open.
 use Rattle.std.proofs.Common.{◌≡◌, ℕ, zero, suc, ◌+◌, ◌≤◌, false, List, [], ◌∷◌}
 use Rattle.std.proofs.Common.{◌++◌, refl, sym, ◌∙◌, arith, codes, Option, Some, None}
-use Rattle.protobuf_parse_grammar.specs.Readers.{Rest, Shape, nested}
+use Rattle.protobuf_parse_grammar.specs.Readers.{Rest, Shape, nested, shape}
+use Rattle.protobuf_parse_grammar.specs.Combinators.{then_shape}
 use Rattle.protobuf_parse_grammar.specs.Pairs.{both, none-le, level-suc}
 use Rattle.protobuf_parse_grammar.specs.Relations.{Separated, Many, Then, somes}
 use Rattle.protobuf_parse_grammar.specs.Whole.{whole}
@@ -10,6 +11,7 @@ use Rattle.protobuf_parse_lexer.specs.Tokens.{Lexeme}
 use Rattle.protobuf_parse_lexer.specs.Classes.{Class, symbol as symbol_class, word as word_class}
 use Rattle.protobuf_parse_lexer.specs.Classes.{ident as ident_class, words, text, is_one_of}
 use Rattle.protobuf_parse_lexer.specs.declared.lexer.token.Place.{Place}
+use Rattle.protobuf_parse_syntax.specs.ClassLaws.{lexicon}
 use Rattle.protobuf_parse_syntax.specs.Grammar.{ConstantOf, IsAssignment, IsConstant, IsComma}
 use Rattle.protobuf_parse_syntax.specs.Grammar.{ConstantFieldOf, MessageConstantOf, ListOf}
 use Rattle.protobuf_parse_syntax.specs.Trees.{ConstantSyntax}
@@ -24,7 +26,7 @@ use Rattle.protobuf_parse_syntax.specs.declared.tree.Syntax.{Syntax}
 use Rattle.protobuf_parse_syntax.specs.declared.tree.Syntax.TheVariants.{Proto2, Proto3}
 use Rattle.protobuf_parse_syntax.specs.declared.tree.field.Label.{Label}
 use Rattle.protobuf_parse_syntax.specs.Trees.{TypeSyntax, FieldStatementSyntax}
-use Rattle.protobuf_parse_syntax.specs.NestedFields.{comma_shape, assignments_shape}
+use Rattle.protobuf_parse_syntax.specs.NestedFields.{assignments_shape}
 use Rattle.protobuf_parse_syntax.specs.NestedFields.{bracketed_shape}
 use Rattle.protobuf_parse_syntax.specs.NestedFields.{Bracketed, AfterType, item_shape, items_shape}
 use Rattle.protobuf_parse_grammar.specs.Relations.{Unless}
@@ -183,11 +185,12 @@ option_is n d h ts = refl
 abbrev pub option : {n : ℕ} (d : ℕ) → 101 ≤ n + d → Quiet n n (IsOption d) nest.option_shape
 option {n = n} d h = as_reader (nest.option d).low (option_parts d h) (option_is n d h)
 
--- wrong from the comma on, if something behind it is
 unfoldable pub comma_assignment : {n : ℕ} (d : ℕ) → 101 ≤ n + d →
-    Quiet n n (Then IsComma (λ u. IsAssignment d)) comma_shape
-comma_assignment d h = from_start (shaped comma_shape
-    (do flat (part.symbol char.comma) refl (balance.symbol char.comma refl); assignment d h) refl)
+    Quiet n n (Then IsComma (λ u. IsAssignment d))
+    (then_shape lexicon (shape (symbol_class char.comma ∷ []) false []) nest.assignment_shape)
+comma_assignment d h = do
+  flat (part.symbol char.comma) refl (balance.symbol char.comma refl)
+  assignment d h
 
 unfoldable pub assignments : {n : ℕ} (d : ℕ) → 101 ≤ n + d →
     Quiet n n (Separated IsComma (IsAssignment d)) assignments_shape
@@ -196,14 +199,13 @@ assignments d h = shaped assignments_shape (do
   others ← many (comma_assignment d h) refl
   give (first ∷ others)) refl
 
--- wrong from the bracket on, if something in them is
 unfoldable pub bracketed_options : {n : ℕ} (d : ℕ) → 101 ≤ n + d →
     Quiet n n (Bracketed d) bracketed_shape
-bracketed_options {n = n} d h = from_start (shaped bracketed_shape (do
+bracketed_options {n = n} d h = shaped bracketed_shape (do
   flat (part.symbol char.open_bracket) refl (opening char.open_bracket refl refl)
   options ← assignments d (deeper n d h)
   flat (part.symbol char.close_bracket) refl (closing char.close_bracket refl refl)
-  give options) refl)
+  give options) refl
 
 unfoldable pub options_parts : {n : ℕ} (d : ℕ) → 101 ≤ n + d →
     Quiet n n (AreOptions d) nest.options_shape
@@ -213,7 +215,7 @@ options_parts d h = shaped nest.options_shape (choose (bracketed_options d h) re
 pub options_are : (n d : ℕ) (h : 101 ≤ n + d) (ts : Rest Lexeme Place) →
     (nest.options d).low.run ts ≡ (options_parts d h).reader.run ts
 unfolding options_parts bracketed_options assignments comma_assignment assignment nest.options_pair
-    nest.bracket_parts nest.assignments nest.assignment
+    nest.bracketed_options nest.assignments nest.assignment
 options_are n d h ts = refl
 
 abbrev pub options : {n : ℕ} (d : ℕ) → 101 ≤ n + d → Quiet n n (AreOptions d) nest.options_shape

@@ -29,8 +29,8 @@ use Rattle.protobuf_parse_syntax.specs.Said.{version_of, path_of}
 use Rattle.protobuf_parse_syntax.specs.SaidLaws.{version-to, version-from, path-to, path-from}
 use Rattle.protobuf_parse_syntax.specs.Productions.{str, piece, reserved_name, version, path}
 use Rattle.protobuf_parse_syntax.specs.ClassLaws.{lexicon}
-use Rattle.protobuf_parse_syntax.specs.Code.{Failure, at, off, too_deep, failed, Fails, Unsaid}
-use Rattle.protobuf_parse_syntax.specs.Code.{of_text, of_version, of_path, refusal_of}
+use Rattle.protobuf_parse_syntax.specs.Code.{Failure, at, off, too_deep, failed, Fails, IsWrong}
+use Rattle.protobuf_parse_syntax.specs.Code.{Unsaid, of_text, of_version, of_path, refusal_of}
 use Rattle.protobuf_parse_syntax.specs.declared.parser.refusal.Refusal.{Refusal}
 use Rattle.protobuf_parse_syntax.specs.declared.parser.refusal.Refusal.TheVariants.{Memory, Fault}
 use Rattle.protobuf_parse_syntax.specs.declared.tree.Syntax.{Syntax}
@@ -64,7 +64,7 @@ refused_text zs e (inr h) other v d = h.1.2 (subst IsUtf8 (one_decoding_of_all d
 pub fails_text : (ts us : Rest Lexeme Place) (zs : Pieces) (e : StrLitDecodeError)
     → str.run ts ≡ read zs us → RefusesText zs e
     → Fails (refusal_of e) ts (reserved_name.run ts)
-    ⊎ Unsaid of_text ts (refusal_of e) ts (reserved_name.run ts)
+    ⊎ IsWrong (Unsaid of_text) ts (refusal_of e) ts (reserved_name.run ts)
 unfolding reserved_name
 fails_text ts us zs decoding.Memory is h = inl tt
 fails_text ts us zs decoding.BadEscape is h =
@@ -72,20 +72,16 @@ fails_text ts us zs decoding.BadEscape is h =
     inr (
       error.StrLitDecode,
       refl,
-      refl,
-      refl,
-      says_nothing StandsFor text_of text-to text-from ts us zs is no_text,
-      (zs, us, is, no_text),
+      (ts, says_nothing StandsFor text_of text-to text-from ts us zs is no_text),
+      ([], refl, (refl, refl, (zs, us, is, no_text))),
     )
 fails_text ts us zs decoding.NotUtf8 is h =
     let no_text = refused_text zs decoding.NotUtf8 h (λ e. cc) in
     inr (
       error.StrLitDecode,
       refl,
-      refl,
-      refl,
-      says_nothing StandsFor text_of text-to text-from ts us zs is no_text,
-      (zs, us, is, no_text),
+      (ts, says_nothing StandsFor text_of text-to text-from ts us zs is no_text),
+      ([], refl, (refl, refl, (zs, us, is, no_text))),
     )
 
 -- ---- where a string ends
@@ -166,17 +162,22 @@ module _ {B : Type 0} (M : Pieces → B → Type 0) (means : Pieces → Option B
   -- a string that is no text says nothing else either
   pub fails_as_text : (faults : ParserError → Type 0) → ((x : ParserError) → of_text x → faults x)
       → (e : Refusal) (ts after : Rest Lexeme Place)
-      → Fails e after (reserved_name.run ts) ⊎ Unsaid of_text ts e after (reserved_name.run ts)
+      → Fails e after (reserved_name.run ts) ⊎ IsWrong (Unsaid of_text) ts e after (reserved_name.run ts)
       → Fails e after ((finding str M means to from).run ts)
-      ⊎ Unsaid faults ts e after ((finding str M means to from).run ts)
+      ⊎ IsWrong (Unsaid faults) ts e after ((finding str M means to from).run ts)
   unfolding reserved_name
   fails_as_text faults among Memory ts after h = inl tt
   fails_as_text faults among (Fault e) ts after (inl (inl h)) =
       inl (inl (no_text-at ts (at after) (str.run ts) h.0, h.1))
   fails_as_text faults among (Fault e) ts after (inl (inr h)) =
       inl (inr (h.0, no_text-at ts h.0 (str.run ts) h.1, h.2))
-  fails_as_text faults among e ts after (inr (x, told, here, stands, w, says)) =
-      inr (x, among x told, here, stands, no_text-at ts (off ts) (str.run ts) w, says)
+  fails_as_text faults among e ts after (inr (x, here, w, (used, parts, told))) =
+      inr (
+        x,
+        here,
+        (w.0, no_text-at ts (off w.0) (str.run ts) w.1),
+        (used, parts, (among x told.0, told.1, told.2)),
+      )
 
 -- ---- versions and paths
 
@@ -193,15 +194,15 @@ no_path : (z : Pieces) → text_of z ≡ None → path_of z ≡ None
 no_path z e = rw e refl
 
 pub fails_version : (e : Refusal) (ts after : Rest Lexeme Place)
-    → Fails e after (reserved_name.run ts) ⊎ Unsaid of_text ts e after (reserved_name.run ts)
-    → Fails e after (version.run ts) ⊎ Unsaid of_version ts e after (version.run ts)
+    → Fails e after (reserved_name.run ts) ⊎ IsWrong (Unsaid of_text) ts e after (reserved_name.run ts)
+    → Fails e after (version.run ts) ⊎ IsWrong (Unsaid of_version) ts e after (version.run ts)
 unfolding version
 fails_version = fails_as_text SaysVersion version_of version-to version-from no_version of_version
     (λ x h. inl h)
 
 pub fails_path : (e : Refusal) (ts after : Rest Lexeme Place)
-    → Fails e after (reserved_name.run ts) ⊎ Unsaid of_text ts e after (reserved_name.run ts)
-    → Fails e after (path.run ts) ⊎ Unsaid of_path ts e after (path.run ts)
+    → Fails e after (reserved_name.run ts) ⊎ IsWrong (Unsaid of_text) ts e after (reserved_name.run ts)
+    → Fails e after (path.run ts) ⊎ IsWrong (Unsaid of_path) ts e after (path.run ts)
 unfolding path
 fails_path = fails_as_text SaysPath path_of path-to path-from no_path of_path (λ x h. inl h)
 
@@ -217,7 +218,7 @@ module _ (ts us : Rest Lexeme Place) (text : Bytes) (is : reserved_name.run ts �
   -- it says neither version
   pub says_no_version : ((s : Syntax) → text ≡ name_of s → ⊥)
       → Fails (Fault error.UnknownSyntax) ts (version.run ts)
-      ⊎ Unsaid of_version ts (Fault error.UnknownSyntax) ts (version.run ts)
+      ⊎ IsWrong (Unsaid of_version) ts (Fault error.UnknownSyntax) ts (version.run ts)
   unfolding version
   says_no_version other =
       let x = text_read ts us text is in
@@ -225,11 +226,12 @@ module _ (ts us : Rest Lexeme Place) (text : Bytes) (is : reserved_name.run ts �
       → ⊥ = λ s d. other s (one_decoding_of_all x.2.0 d) in
       inr (
         error.UnknownSyntax,
-        inr refl,
         refl,
-        refl,
-        says_nothing SaysVersion version_of version-to version-from ts us x.0 x.1 no_version,
-        (x.0, us, x.1, (text, x.2, other)),
+        (
+          ts,
+          says_nothing SaysVersion version_of version-to version-from ts us x.0 x.1 no_version,
+        ),
+        ([], refl, (inr refl, refl, (x.0, us, x.1, (text, x.2, other)))),
       )
 
   pub says_path : IsProtoPath text → path.run ts ≡ read text us
@@ -240,7 +242,7 @@ module _ (ts us : Rest Lexeme Place) (text : Bytes) (is : reserved_name.run ts �
 
   pub says_no_path : (fault : PathError) → path_fault text ≡ Some fault → (IsProtoPath text → ⊥)
       → Fails (Fault (error.BadImportPath fault)) ts (path.run ts)
-      ⊎ Unsaid of_path ts (Fault (error.BadImportPath fault)) ts (path.run ts)
+      ⊎ IsWrong (Unsaid of_path) ts (Fault (error.BadImportPath fault)) ts (path.run ts)
   unfolding path
   says_no_path fault its other =
       let x = text_read ts us text is in
@@ -248,12 +250,13 @@ module _ (ts us : Rest Lexeme Place) (text : Bytes) (is : reserved_name.run ts �
       → ⊥ = λ v d h. other (subst IsProtoPath (one_decoding_of_all d x.2.0) h) in
       inr (
         error.BadImportPath fault,
-        inr (fault, refl),
         refl,
-        refl,
-        says_nothing SaysPath path_of path-to path-from ts us x.0 x.1
-            (λ v h. no_path v h.0.0 h.1),
-        (x.0, us, x.1, (text, x.2, its)),
+        (
+          ts,
+          says_nothing SaysPath path_of path-to path-from ts us x.0 x.1
+              (λ v h. no_path v h.0.0 h.1),
+        ),
+        ([], refl, (inr (fault, refl), refl, (x.0, us, x.1, (text, x.2, its)))),
       )
 
 -- ---- a string of one token

@@ -7,7 +7,7 @@ use Rattle.std.proofs.Common.{ap, ◌∙◌, refl, inl, inr}
 use Rattle.protobuf_parse_base.specs.Characters as char
 use Rattle.protobuf_parse_grammar.specs.Readers.{Rest, end, token, onto, Read, read, stuck, wrong}
 use Rattle.protobuf_parse_grammar.specs.Readers.{deep, bind}
-use Rattle.protobuf_parse_grammar.specs.Relations.{Many}
+use Rattle.protobuf_parse_grammar.specs.Relations.{Rel, Many}
 use Rattle.protobuf_parse_grammar.specs.Whole.{whole}
 use Rattle.protobuf_parse_base.specs.declared.proto_path.error.PathError.{PathError}
 use Rattle.protobuf_parse_lexer.specs.Text.{Bytes, seen_by}
@@ -24,10 +24,11 @@ use Rattle.protobuf_parse_lexer.specs.declared.lexer.str_lit.StrLitDecodeError.{
 use Rattle.protobuf_parse_lexer.specs.declared.lexer.str_lit.StrLitDecodeError.TheVariants as decoding
 use Rattle.protobuf_parse_syntax.specs.Trees.{Pieces, OptionSyntax}
 use Rattle.protobuf_parse_syntax.specs.Grammar.{any_ident, IsComma}
-use Rattle.protobuf_parse_syntax.specs.Parsing.{IsLarge, SaysNothing, HundredParts, EndsWithParts}
-use Rattle.protobuf_parse_syntax.specs.Parsing.{EndsWithImport, EndsWithNoString, SyntaxHead}
-use Rattle.protobuf_parse_syntax.specs.Parsing.{IsEarlierOption, ListFront, IsGrammarFault}
+use Rattle.protobuf_parse_syntax.specs.Parsing.{IsLarge, SaysNothing, HundredParts, OptionHead}
+use Rattle.protobuf_parse_syntax.specs.Parsing.{ImportHead, SyntaxHead, ReservedHead, IsEarlier}
+use Rattle.protobuf_parse_syntax.specs.Parsing.{ListFront, IsGrammarFault}
 use Rattle.protobuf_parse_syntax.specs.Productions as parse
+use Rattle.protobuf_parse_syntax.specs.declared.tree.ImportVis.{ImportVis}
 use Rattle.protobuf_parse_syntax.specs.declared.parser.refusal.Refusal.{Refusal}
 use Rattle.protobuf_parse_syntax.specs.declared.parser.refusal.Refusal.TheVariants.{Memory, Fault}
 use Rattle.protobuf_parse_syntax.specs.declared.parser.cursor.Cursor.{Cursor}
@@ -117,15 +118,77 @@ AtOneToken error.OneOfInGroup = Unit {0}
 AtOneToken error.OnlyFieldsInGroup = Unit {0}
 AtOneToken _ = ⊥
 
--- What a fault of the part that begins next says of it, and of the tokens directly before it, from
--- the first one on of a part that is wrong.
-abbrev pub Says : ParserError → List Lexeme → Rest Lexeme Place → Type 0
-Says e used after =
-    ((e ≡ error.FloatConstant) × SignedFloat after)
-    ⊎ ((e ≡ error.OptionNameTooLong) × EndsWithParts used × (begins_part after ≡ true))
-    ⊎ ((e ≡ error.StrLitDecode) × EndsWithNoString used × SaysNot error.StrLitDecode after)
-    ⊎ ((p : PathError) × (e ≡ error.BadImportPath p) × EndsWithImport used
-    × SaysNot (error.BadImportPath p) after)
+-- ---- a fault in a part
+
+-- What a fault says of a part: of its tokens up to the fault, and of those from there on.
+abbrev pub Wrongs : Type 1
+Wrongs = ParserError → List Lexeme → Rest Lexeme Place → Type 0
+
+-- behind such tokens something is wrong
+abbrev pub Behind : (List Lexeme → Type 0) → Wrongs → Wrongs
+Behind Front P e used after = (front : List Lexeme) × (back : List Lexeme)
+    × (used ≡ front ++ back) × Front front × P e back after
+
+-- A string says nothing: it has one of these faults.
+abbrev pub Unsaid : (ParserError → Type 0) → Wrongs
+Unsaid faults e used after = faults e × (used ≡ []) × SaysNot e after
+
+-- the faults of a string of which the text, the version or the path is wanted
+abbrev pub of_text : ParserError → Type 0
+of_text e = e ≡ error.StrLitDecode
+
+abbrev pub of_version : ParserError → Type 0
+of_version e = (e ≡ error.StrLitDecode) ⊎ (e ≡ error.UnknownSyntax)
+
+abbrev pub of_path : ParserError → Type 0
+of_path e = (e ≡ error.StrLitDecode) ⊎ ((p : PathError) × (e ≡ error.BadImportPath p))
+
+-- an option's name has more than a hundred parts
+abbrev pub LongName : Wrongs
+LongName e used after =
+    (e ≡ error.OptionNameTooLong) × HundredParts used × (begins_part after ≡ true)
+
+-- the items of a list before one of them, each with the comma behind it
+abbrev pub AreEarlier : {A : Type 0} → Rel Lexeme A → List Lexeme → Type 0
+AreEarlier {A = A} R ts = (earlier : List A) × Many (IsEarlier R) ts earlier
+
+-- a comma
+abbrev pub IsCommaAlone : List Lexeme → Type 0
+IsCommaAlone ts = IsComma ts tt
+
+-- with what statements begin in which something may be wrong: `syntax`, an import, reserved names,
+-- and options in brackets
+abbrev pub IsSyntaxHead : List Lexeme → Type 0
+IsSyntaxHead ts = SyntaxHead ts tt
+
+abbrev pub IsImportHead : List Lexeme → Type 0
+IsImportHead ts = (vis : ImportVis) × ImportHead ts vis
+
+abbrev pub IsReservedHead : List Lexeme → Type 0
+IsReservedHead ts = (names : List Bytes) × ReservedHead ts names
+
+abbrev pub IsListFront : ℕ → List Lexeme → Type 0
+IsListFront n ts = (earlier : List OptionSyntax) × ListFront n ts earlier
+
+-- what is wrong in these statements
+abbrev pub NoVersion : Wrongs
+NoVersion = Behind IsSyntaxHead (Unsaid of_version)
+
+abbrev pub NoPath : Wrongs
+NoPath = Behind IsImportHead (Unsaid of_path)
+
+abbrev pub NoName : Wrongs
+NoName = Behind IsReservedHead (Unsaid of_text)
+
+abbrev pub NoOption : Wrongs
+NoOption = Behind OptionHead LongName
+
+-- What a fault of the part that begins next says of it, and of the tokens before it: they end with
+-- the head of a statement.
+abbrev pub Says : Wrongs
+Says e used after = (before : List Lexeme) × (part : List Lexeme) × (used ≡ before ++ part)
+    × (((e ≡ error.FloatConstant) × SignedFloat after)
+    ⊎ NoOption e part after ⊎ NoPath e part after ⊎ NoName e part after)
 
 -- what such a fault says of why nothing is read
 abbrev pub Tells : ParserError → Rest Lexeme Place → Failure → Type 0
@@ -156,8 +219,7 @@ GivesSome view (Some x) before after r = r ≡ read (view x) after
 GivesSome view None before after r = after ≡ before
 
 -- What a function put behind a list, seen by view, is what was read, and the cursor stands behind
--- it
--- or at the fault, unless memory ran out.
+-- it or at the fault, unless memory ran out.
 abbrev pub Puts : {X Y : Type 0} → (X → Y) → Result (Unit {0}) Refusal → List X → List X
     → Rest Lexeme Place → Read Lexeme Place Y → Type 0
 Puts {X = X} view (Ok u) old new after r =
@@ -177,59 +239,17 @@ abbrev pub GivesOr : {X Y : Type 0} → (Refusal → Rest Lexeme Place → Read 
 GivesOr P view (Ok x) after r = r ≡ read (view x) after
 GivesOr P view (Err e) after r = Fails e after r ⊎ P e after r
 
--- The string that comes first says nothing: it has one of these faults.
-abbrev pub Unsaid : (ParserError → Type 0) → Rest Lexeme Place → {Y : Type 0} → Refusal
-    → Rest Lexeme Place → Read Lexeme Place Y → Type 0
-Unsaid faults before e after r = (x : ParserError) × faults x × (e ≡ Fault x) × (after ≡ before)
-    × (r ≡ wrong before) × SaysNot x before
-
--- the faults of a string of which the text, the version or the path is wanted
-abbrev pub of_text : ParserError → Type 0
-of_text x = x ≡ error.StrLitDecode
-
-abbrev pub of_version : ParserError → Type 0
-of_version x = (x ≡ error.StrLitDecode) ⊎ (x ≡ error.UnknownSyntax)
-
-abbrev pub of_path : ParserError → Type 0
-of_path x = (x ≡ error.StrLitDecode) ⊎ ((p : PathError) × (x ≡ error.BadImportPath p))
-
--- The string of the `syntax` that comes first says no version.
-abbrev pub NoVersion : Rest Lexeme Place → {Y : Type 0} → Refusal → Rest Lexeme Place
+-- The part that begins at `before` is wrong somewhere in it, and what is wrong there.
+abbrev pub IsWrong : Wrongs → Rest Lexeme Place → {Y : Type 0} → Refusal → Rest Lexeme Place
     → Read Lexeme Place Y → Type 0
-NoVersion before e after r = (e ≡ Fault error.UnknownSyntax) × (r ≡ wrong before)
-    × ((used : List Lexeme) × (before ≡ onto used after) × SyntaxHead used tt
-    × SaysNot error.UnknownSyntax after)
+IsWrong P before e after r = (x : ParserError) × (e ≡ Fault x)
+    × ((start : Rest Lexeme Place) × (r ≡ wrong start))
+    × ((used : List Lexeme) × (before ≡ onto used after) × P x used after)
 
 -- behind a dot comes a part too many
 abbrev pub TooMany : {Y : Type 0} → Refusal → Rest Lexeme Place → Read Lexeme Place Y → Type 0
 TooMany e after r = (e ≡ Fault error.OptionNameTooLong) × (r ≡ wrong after)
     × (begins_part after ≡ true)
-
--- The option's name that comes first has more than a hundred parts.
-abbrev pub LongName : Rest Lexeme Place → {Y : Type 0} → Refusal → Rest Lexeme Place
-    → Read Lexeme Place Y → Type 0
-LongName before e after r = (e ≡ Fault error.OptionNameTooLong) × (r ≡ wrong before)
-    × ((used : List Lexeme) × (before ≡ onto used after) × HundredParts used
-    × (begins_part after ≡ true))
-
--- Tokens come next of which the front is so, and behind it an option's name that has more than a
--- hundred parts.
-abbrev pub LongBehind : (List Lexeme → Type 0) → Rest Lexeme Place → {Y : Type 0} → Refusal
-    → Rest Lexeme Place → Read Lexeme Place Y → Type 0
-LongBehind Front before e after r = (e ≡ Fault error.OptionNameTooLong)
-    × ((start : Rest Lexeme Place) × (r ≡ wrong start))
-    × ((front : List Lexeme) × (name : List Lexeme) × (before ≡ onto front (onto name after))
-    × Front front × HundredParts name × (begins_part after ≡ true))
-
--- a comma; the options before one of a list; and these with the bracket that opens the list
-abbrev pub IsCommaAlone : List Lexeme → Type 0
-IsCommaAlone ts = IsComma ts tt
-
-abbrev pub AreEarlier : ℕ → List Lexeme → Type 0
-AreEarlier n ts = (earlier : List OptionSyntax) × Many (IsEarlierOption n) ts earlier
-
-abbrev pub IsListFront : ℕ → List Lexeme → Type 0
-IsListFront n ts = (earlier : List OptionSyntax) × ListFront n ts earlier
 
 -- what a string's error is to the parser
 abbrev pub refusal_of : StrLitDecodeError → Refusal

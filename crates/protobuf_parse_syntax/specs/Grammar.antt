@@ -185,8 +185,8 @@ IsName = do
   dotted ← IsDotted
   Nothing (root ++ dotted)
 
--- ---- constant = msgconst | list | "true" | "false" | [ "+" | "-" ] int | str | ident { "." ident
--- }
+-- ---- constant = msgconst | list | "true" | "false" | [ "+" | "-" ] int | str
+-- ----          | ident { "." ident }
 
 -- the words of truth values
 abbrev pub truth_words : List Bytes

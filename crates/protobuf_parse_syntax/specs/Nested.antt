@@ -46,7 +46,7 @@ unfoldable pub use Rattle.protobuf_parse_syntax.specs.NestedFields.{message_cons
 unfoldable pub use Rattle.protobuf_parse_syntax.specs.NestedFields.{constants_of, list_of}
 unfoldable pub use Rattle.protobuf_parse_syntax.specs.NestedFields.{constant_of, map_of, type_of}
 unfoldable pub use Rattle.protobuf_parse_syntax.specs.NestedFields.{assignment, option_parts}
-unfoldable pub use Rattle.protobuf_parse_syntax.specs.NestedFields.{bracket_parts}
+unfoldable pub use Rattle.protobuf_parse_syntax.specs.NestedFields.{bracketed_options}
 unfoldable pub use Rattle.protobuf_parse_syntax.specs.NestedFields.{assignments, options_pair}
 unfoldable pub use Rattle.protobuf_parse_syntax.specs.NestedFields.{map_field, field_of}
 pub use Rattle.protobuf_parse_syntax.specs.NestedFields.{Parts, item, statements, option, options}
@@ -58,8 +58,8 @@ pub use Rattle.protobuf_parse_syntax.specs.NestedFields.{constant_in, constant_z
 pub use Rattle.protobuf_parse_syntax.specs.NestedFields.{near_constant, constants, type_shape}
 pub use Rattle.protobuf_parse_syntax.specs.NestedFields.{type_, near_type, types, item_shape}
 pub use Rattle.protobuf_parse_syntax.specs.NestedFields.{items_shape, assignment_shape}
-pub use Rattle.protobuf_parse_syntax.specs.NestedFields.{option_pair, comma_parts, comma_assignment}
-pub use Rattle.protobuf_parse_syntax.specs.NestedFields.{bracketed_options, assignments_first}
+pub use Rattle.protobuf_parse_syntax.specs.NestedFields.{option_pair, comma_assignment}
+pub use Rattle.protobuf_parse_syntax.specs.NestedFields.{assignments_first}
 pub use Rattle.protobuf_parse_syntax.specs.NestedFields.{option_shape, option-same, options_shape}
 pub use Rattle.protobuf_parse_syntax.specs.NestedFields.{options-same, option_items_shape}
 pub use Rattle.protobuf_parse_syntax.specs.NestedFields.{option_item_shape, AfterType, after_type}

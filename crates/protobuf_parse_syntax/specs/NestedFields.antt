@@ -264,20 +264,11 @@ option-same n ts = refl
 abbrev pub option : (n : ℕ) → Parts (IsOption n) (IsOption (suc n)) option_shape n
 option = steady option_pair option-same
 
-abbrev pub comma_shape : Shape Class
-comma_shape = nested (symbol_class char.comma ∷ []) false (symbol_class char.dot ∷ text ∷ [])
-
 -- "," and an option
-abbrev pub comma_parts : (n : ℕ)
-    → Parts (Then IsComma (λ u. IsAssignment n)) (Then IsComma (λ u. IsAssignment (suc n)))
-    comma_shape n
-comma_parts n = shaped comma_shape (do same (symbol char.comma) refl; assignment n) refl
-
--- wrong from the comma on, if something in it is
 abbrev pub comma_assignment : (n : ℕ)
     → Parts (Then IsComma (λ u. IsAssignment n)) (Then IsComma (λ u. IsAssignment (suc n)))
-    comma_shape n
-comma_assignment n = from_start (comma_parts n)
+    (then_shape lexicon (shape (symbol_class char.comma ∷ []) false []) assignment_shape) n
+comma_assignment n = do same (symbol char.comma) refl; assignment n
 
 abbrev pub assignments_shape : Shape Class
 assignments_shape = nested (ident_class [] ∷ symbol_class char.open_paren ∷ []) false
@@ -307,18 +298,13 @@ abbrev pub Bracketed : ℕ → Rel Lexeme (List OptionSyntax)
 Bracketed n = Then (IsSymbol char.open_bracket) (λ u. Then (Separated IsComma (IsAssignment n))
     (λ options. Then (IsSymbol char.close_bracket) (λ v. Nothing options)))
 
-unfoldable pub bracket_parts : (n : ℕ)
+unfoldable pub bracketed_options : (n : ℕ)
     → Parts (Bracketed n) (Bracketed (suc n)) bracketed_shape n
-bracket_parts n = shaped bracketed_shape (do
+bracketed_options n = shaped bracketed_shape (do
   same (symbol char.open_bracket) refl
   options ← assignments n
   same (symbol char.close_bracket) refl
   give options) refl
-
--- wrong from the bracket on, if something in them is
-abbrev pub bracketed_options : (n : ℕ)
-    → Parts (Bracketed n) (Bracketed (suc n)) bracketed_shape n
-bracketed_options n = from_start (bracket_parts n)
 
 abbrev pub options_shape : Shape Class
 options_shape =
@@ -330,7 +316,7 @@ options_pair n = shaped options_shape (choose (bracketed_options n) refl (give [
 
 pub options-same : (n : ℕ) (ts : Rest Lexeme Place)
     → (options_pair n).high.run ts ≡ (options_pair (suc n)).low.run ts
-unfolding options_pair bracket_parts assignments assignment
+unfolding options_pair bracketed_options assignments assignment
 options-same n ts = refl
 
 abbrev pub options : (n : ℕ) → Parts (AreOptions n) (AreOptions (suc n)) options_shape n

@@ -1,5 +1,5 @@
 -- What is promised of a file's tokens, and of its text.
-use Rattle.std.specs.Prelude.{◌≡◌, ◌<◌, ◌⊎◌, ℕ, List, [], ◌∷◌, ◌++◌, length, Some, true, false}
+use Rattle.std.specs.Prelude.{◌≡◌, ◌<◌, ◌⊎◌, ℕ, List, [], ◌∷◌, ◌++◌, length, Some, true}
 use Rattle.std.specs.Prelude.{codes}
 use Rattle.std.specs.Prelude.{Result, MatchResult}
 use Rattle.protobuf_parse_base.specs.Paths.{path_fault}
@@ -21,7 +21,7 @@ use Rattle.protobuf_parse_lexer.specs.declared.lexer.token.TokenKind.TheVariants
 use Rattle.protobuf_parse_syntax.specs.Trees.{Pieces, OptionPartSyntax, OptionSyntax, FileSyntax}
 use Rattle.protobuf_parse_syntax.specs.Grammar.{IsWord, IsSymbol, IsComma, IsOptionPart, IsNextPart}
 use Rattle.protobuf_parse_syntax.specs.Grammar.{IsAssignment, IsEnumNumber, IsVisibility}
-use Rattle.protobuf_parse_syntax.specs.Grammar.{IsStr, IsFile, name_of, place_of}
+use Rattle.protobuf_parse_syntax.specs.Grammar.{IsReservedName, IsStr, IsFile, name_of, place_of}
 use Rattle.protobuf_parse_syntax.specs.declared.tree.ImportVis.{ImportVis}
 use Rattle.protobuf_parse_syntax.specs.declared.tree.Syntax.{Syntax}
 
@@ -63,13 +63,14 @@ pub record HundredParts (ts : List Lexeme) : Type 0 where
   pub hundred : length more ≡ 99
   pub dotted : is_one_of (symbol char.dot ∷ []) dot ≡ true
 
--- an option of a list, whose constants nest in so many levels, and the comma behind it
-abbrev pub IsEarlierOption : ℕ → Rel Lexeme OptionSyntax
-IsEarlierOption n = do option ← IsAssignment n; IsComma; Nothing option
+-- an item of a list, and the comma behind it
+abbrev pub IsEarlier : {A : Type 0} → Rel Lexeme A → Rel Lexeme A
+IsEarlier R = do item ← R; IsComma; Nothing item
 
--- the bracket that opens a list of options, and the options that stand before one of them
+-- The bracket that opens a list of options, whose constants nest in so many levels, and the options
+-- that stand before one of them.
 abbrev pub ListFront : ℕ → Rel Lexeme (List OptionSyntax)
-ListFront n = do IsSymbol char.open_bracket; Many (IsEarlierOption n)
+ListFront n = do IsSymbol char.open_bracket; Many (IsEarlier (IsAssignment n))
 
 -- `=`, the number of a field or of an enum's value, and these
 abbrev pub ListHead : ℕ → Rel Lexeme (List OptionSyntax)
@@ -123,17 +124,22 @@ EndsWithImport ts =
     (before : List Lexeme) × (head : List Lexeme) × (vis : ImportVis)
     × (ts ≡ before ++ head) × ImportHead head vis
 
--- The tokens end with one that is no string.
-abbrev pub EndsWithNoString : List Lexeme → Type 0
-EndsWithNoString ts =
-    (before : List Lexeme) × (last : Lexeme) × (ts ≡ before ++ last ∷ [])
-    × (is_one_of (string_token ∷ []) last ≡ false)
+-- `reserved`, and the names that stand before one of its list
+abbrev pub ReservedHead : Rel Lexeme (List Bytes)
+ReservedHead = do IsWord (codes "reserved"); Many (IsEarlier IsReservedName)
+
+-- The tokens end with those.
+abbrev pub EndsWithReserved : List Lexeme → Type 0
+EndsWithReserved ts =
+    (before : List Lexeme) × (head : List Lexeme) × (names : List Bytes)
+    × (ts ≡ before ++ head) × ReservedHead head names
 
 -- What stands before strings with a fault: S10 is that of `syntax`, with which the file begins, S19
--- that of an `import`; at S15 no string does.
+-- that of an `import`, S15 that of either, or a name of a `reserved`.
 abbrev pub StandsBehind : ParserError → List Lexeme → Type 0
 StandsBehind error.UnknownSyntax front = SyntaxHead front tt
-StandsBehind error.StrLitDecode front = EndsWithNoString front
+StandsBehind error.StrLitDecode front =
+    SyntaxHead front tt ⊎ EndsWithImport front ⊎ EndsWithReserved front
 StandsBehind (error.BadImportPath e) front = EndsWithImport front
 StandsBehind _ front = ⊥
 

@@ -544,16 +544,12 @@ abbrev pub option_name_shape : Shape Class
 option_name_shape =
     shape (ident_class [] ∷ symbol_class char.open_paren ∷ []) false (symbol_class char.dot ∷ [])
 
-unfoldable pub option_name_parts : Parses IsOptionName option_name_shape
+unfoldable pub option_name : Parses IsOptionName option_name_shape
 unfolding IsOptionName
-option_name_parts = shaped option_name_shape (do
+option_name = shaped option_name_shape (do
   first ← option_part
   others ← parts_up_to 99
   give (grammar.option_name first others)) refl
-
--- wrong from its first part on, if it has too many
-abbrev pub option_name : Parses IsOptionName option_name_shape
-option_name = from_first option_name_parts
 
 -- ---- strings that say something
 
@@ -569,18 +565,14 @@ unfoldable pub reserved_name : Parses IsReservedName str_shape
 unfolding IsReservedName
 reserved_name = finding str StandsFor text_of text-to text-from
 
-unfoldable pub syntax_parts : Parses IsSyntax (shape (word_class (codes "syntax") ∷ []) false [])
+unfoldable pub syntax : Parses IsSyntax (shape (word_class (codes "syntax") ∷ []) false [])
 unfolding IsSyntax
-syntax_parts = shaped (shape (word_class (codes "syntax") ∷ []) false []) (do
+syntax = shaped (shape (word_class (codes "syntax") ∷ []) false []) (do
   word (codes "syntax")
   symbol char.equals
   syntax ← version
   symbol char.semicolon
   give syntax) refl
-
--- wrong from the word `syntax` on, if its string is
-abbrev pub syntax : Parses IsSyntax (shape (word_class (codes "syntax") ∷ []) false [])
-syntax = from_first syntax_parts
 
 -- [ syntax ]; proto2 where it is absent
 unfoldable pub version_statement : Parses (Either IsSyntax (Nothing Proto2))
@@ -617,12 +609,10 @@ abbrev pub reserved_shape : Shape Class
 reserved_shape = shape (text ∷ integer ∷ []) false
     (text ∷ symbol_class char.comma ∷ word_class (codes "to") ∷ [])
 
--- "," and a text, wrong from the comma on
+-- "," and a text
 abbrev pub comma_name : Reader lexicon (Then (IsSymbol char.comma) (λ u. IsReservedName))
-    (shape (symbol_class char.comma ∷ []) false (text ∷ []))
-comma_name =
-    from_first (shaped (shape (symbol_class char.comma ∷ []) false (text ∷ []))
-    (do symbol char.comma; reserved_name) refl)
+    (then_shape lexicon (shape (symbol_class char.comma ∷ []) false []) str_shape)
+comma_name = do symbol char.comma; reserved_name
 
 unfoldable pub names : Parses (Separated (IsSymbol char.comma) IsReservedName)
     (shape (text ∷ []) false (text ∷ symbol_class char.comma ∷ []))
@@ -653,6 +643,6 @@ reserved_parts = shaped (shape (word_class (codes "reserved") ∷ []) false []) 
   symbol char.semicolon
   give (record { place = place; reserved = reserved })) refl) refl
 
--- wrong from the word `reserved` on, if a string is
+-- wrong from the word `reserved` on, if one of its names is
 abbrev pub reserved : Parses IsReserved (shape (word_class (codes "reserved") ∷ []) false [])
 reserved = from_first reserved_parts

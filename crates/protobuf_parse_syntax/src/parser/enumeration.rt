@@ -7,7 +7,9 @@ ghost use Rattle.protobuf_parse_lexer.specs.Text.{seen_by};
 ghost use Rattle.protobuf_parse_syntax.specs.ClassLaws.{lexicon};
 ghost use Rattle.protobuf_parse_syntax.specs.Productions as read;
 ghost use Rattle.protobuf_parse_syntax.specs.Trees as view;
-ghost use Rattle.protobuf_parse_syntax.specs.Code.{left, Gives, GivesOr, Unsaid, of_text};
+ghost use Rattle.protobuf_parse_syntax.specs.Code.{left, Gives, GivesOr, IsWrong, Behind};
+ghost use Rattle.protobuf_parse_syntax.specs.Code.{AreEarlier, IsCommaAlone, Unsaid, of_text};
+ghost use Rattle.protobuf_parse_syntax.specs.Grammar.{IsReservedName};
 ghost use Rattle.protobuf_parse_syntax.specs.Nested as nest;
 
 use crate::parser::cursor::Cursor;
@@ -173,8 +175,9 @@ pub fn reserved(alloc: Global, tokens: &mut Cursor<'_>) -> Result<ReservedStatem
 /// `str { "," str } | range { "," range }`
 #[tactic(auto, unfolding(crate::specs::Productions::reserved_items), using(crate::specs::Code::fails_first))]
 fn reserved_items(alloc: Global, tokens: &mut Cursor<'_>) -> Result<Reserved, Refusal>
-    ensures { GivesOr (Unsaid of_text (left tokens.old)) view.reserved_syntax result
-        (left tokens.new) (read.reserved_items.run (left tokens.old)) }
+    ensures { GivesOr (IsWrong (Behind (AreEarlier IsReservedName) (Unsaid of_text))
+        (left tokens.old)) view.reserved_syntax result (left tokens.new)
+        (read.reserved_items.run (left tokens.old)) }
 {
     if tokens.sees_str() {
         return Ok(Reserved::Names(names(alloc, tokens)?));
@@ -185,8 +188,9 @@ fn reserved_items(alloc: Global, tokens: &mut Cursor<'_>) -> Result<Reserved, Re
 /// `str { "," str }`, each of which is a text
 #[tactic(auto, unfolding(crate::specs::Productions::names), using(crate::specs::Code::fails_first))]
 fn names(alloc: Global, tokens: &mut Cursor<'_>) -> Result<Vec<String>, Refusal>
-    ensures { GivesOr (Unsaid of_text (left tokens.old)) (λ v. map string_bytes v.items) result
-        (left tokens.new) (read.names.run (left tokens.old)) }
+    ensures { GivesOr (IsWrong (Behind (AreEarlier IsReservedName) (Unsaid of_text))
+        (left tokens.old)) (λ v. map string_bytes v.items) result (left tokens.new)
+        (read.names.run (left tokens.old)) }
 {
     let mut names = Vec::new(alloc);
     names.push(text(alloc, tokens)?)?;
@@ -200,7 +204,8 @@ fn names(alloc: Global, tokens: &mut Cursor<'_>) -> Result<Vec<String>, Refusal>
 /// `"," str`
 #[tactic(auto, using(crate::specs::Code::fails_first))]
 fn comma_name(alloc: Global, tokens: &mut Cursor<'_>) -> Result<String, Refusal>
-    ensures { Gives string_bytes result (left tokens.new) (read.comma_name.run (left tokens.old)) }
+    ensures { GivesOr (IsWrong (Behind IsCommaAlone (Unsaid of_text)) (left tokens.old))
+        string_bytes result (left tokens.new) (read.comma_name.run (left tokens.old)) }
 {
     tokens.symbol(',')?;
     text(alloc, tokens)

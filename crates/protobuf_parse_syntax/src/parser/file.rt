@@ -5,8 +5,8 @@ ghost use Rattle.protobuf_parse_base.specs.PathViews.{path_buf_text};
 ghost use Rattle.protobuf_parse_lexer.specs.Text.{seen_by};
 ghost use Rattle.protobuf_parse_syntax.specs.Productions as read;
 ghost use Rattle.protobuf_parse_syntax.specs.Trees as view;
-ghost use Rattle.protobuf_parse_syntax.specs.Code.{left, Gives, GivesOr, Unsaid, NoVersion};
-ghost use Rattle.protobuf_parse_syntax.specs.Code.{of_version, of_path};
+ghost use Rattle.protobuf_parse_syntax.specs.Code.{left, Gives, GivesOr, IsWrong, Unsaid};
+ghost use Rattle.protobuf_parse_syntax.specs.Code.{NoVersion, of_version, of_path};
 ghost use Rattle.protobuf_parse_syntax.specs.Nested as nest;
 
 use crate::parser::cursor::Cursor;
@@ -27,7 +27,7 @@ use std::alloc::Global;
 /// Tokens may be left behind it.
 #[tactic(auto, unfolding(crate::specs::Nested::file), using(crate::specs::Code::fails_first))]
 pub fn file(alloc: Global, tokens: &mut Cursor<'_>, levels: usize) -> Result<FileTree, Refusal>
-    ensures { GivesOr (NoVersion (left tokens.old)) view.file_syntax result (left tokens.new)
+    ensures { GivesOr (IsWrong NoVersion (left tokens.old)) view.file_syntax result (left tokens.new)
         ((nest.files levels).low.run (left tokens.old)) }
 {
     let syntax = version(alloc, tokens)?;
@@ -36,9 +36,9 @@ pub fn file(alloc: Global, tokens: &mut Cursor<'_>, levels: usize) -> Result<Fil
 }
 
 /// `[ "syntax" "=" str ";" ]`; proto2 where it is absent.
-#[tactic(auto, unfolding(crate::specs::Productions::version_statement, crate::specs::Productions::syntax_parts), using(crate::specs::Code::fails_first))]
+#[tactic(auto, unfolding(crate::specs::Productions::version_statement, crate::specs::Productions::syntax), using(crate::specs::Code::fails_first))]
 fn version(alloc: Global, tokens: &mut Cursor<'_>) -> Result<Syntax, Refusal>
-    ensures { GivesOr (NoVersion (left tokens.old)) (λ s. s) result (left tokens.new)
+    ensures { GivesOr (IsWrong NoVersion (left tokens.old)) (λ s. s) result (left tokens.new)
         (read.version_statement.run (left tokens.old)) }
 {
     if !tokens.sees_word("syntax") {
@@ -54,7 +54,7 @@ fn version(alloc: Global, tokens: &mut Cursor<'_>) -> Result<Syntax, Refusal>
 /// The version that a string says: S15 at one that does not decode, S10 at any other text.
 #[tactic(auto, using(crate::specs::Code::fails_first))]
 fn said(alloc: Global, tokens: &mut Cursor<'_>) -> Result<Syntax, Refusal>
-    ensures { GivesOr (Unsaid of_version (left tokens.old)) (λ s. s) result (left tokens.new)
+    ensures { GivesOr (IsWrong (Unsaid of_version) (left tokens.old)) (λ s. s) result (left tokens.new)
         (read.version.run (left tokens.old)) }
 {
     let before = *tokens;
@@ -170,7 +170,7 @@ fn visibility(tokens: &mut Cursor<'_>) -> Result<ImportVis, Refusal>
 /// The proto path that a string says: S15 at one that does not decode, S19 at any other text.
 #[tactic(auto, using(crate::specs::Code::fails_first))]
 fn path(alloc: Global, tokens: &mut Cursor<'_>) -> Result<ProtoPathBuf, Refusal>
-    ensures { GivesOr (Unsaid of_path (left tokens.old)) path_buf_text result (left tokens.new)
+    ensures { GivesOr (IsWrong (Unsaid of_path) (left tokens.old)) path_buf_text result (left tokens.new)
         (read.path.run (left tokens.old)) }
 {
     let before = *tokens;

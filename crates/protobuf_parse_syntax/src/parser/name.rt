@@ -3,8 +3,8 @@
 ghost use Rattle.std.specs.Prelude.{◌≡◌, string_bytes};
 ghost use Rattle.protobuf_parse_syntax.specs.Productions as read;
 ghost use Rattle.protobuf_parse_syntax.specs.Trees.{pieces_of};
-ghost use Rattle.protobuf_parse_syntax.specs.Code.{left, Gives, GivesOr, GivesSome, Unsaid};
-ghost use Rattle.protobuf_parse_syntax.specs.Code.{of_text, refusal_of};
+ghost use Rattle.protobuf_parse_syntax.specs.Code.{left, Gives, GivesOr, GivesSome, IsWrong};
+ghost use Rattle.protobuf_parse_syntax.specs.Code.{Unsaid, of_text, refusal_of};
 
 use crate::parser::cursor::Cursor;
 use crate::parser::refusal::Refusal;
@@ -82,7 +82,7 @@ pub fn string(alloc: Global, tokens: &mut Cursor<'_>) -> Result<StrLit, Refusal>
 
 /// The text that a string stands for. S15 at the string where it stands for none.
 pub fn text(alloc: Global, tokens: &mut Cursor<'_>) -> Result<String, Refusal>
-    ensures { GivesOr (Unsaid of_text (left tokens.old)) string_bytes result (left tokens.new)
+    ensures { GivesOr (IsWrong (Unsaid of_text) (left tokens.old)) string_bytes result (left tokens.new)
         (read.reserved_name.run (left tokens.old)) }
 {
     match text_as_written(tokens) {
@@ -109,7 +109,7 @@ fn text_as_written<'text>(tokens: &mut Cursor<'text>) -> Option<&'text str>
 /// The text that any string stands for.
 #[tactic(auto, unfolding(crate::specs::Productions::reserved_name), using(crate::specs::Code::fails_first))]
 fn decoded_text(alloc: Global, tokens: &mut Cursor<'_>) -> Result<String, Refusal>
-    ensures { GivesOr (Unsaid of_text (left tokens.old)) string_bytes result (left tokens.new)
+    ensures { GivesOr (IsWrong (Unsaid of_text) (left tokens.old)) string_bytes result (left tokens.new)
         (read.reserved_name.run (left tokens.old)) }
 {
     let before = *tokens;

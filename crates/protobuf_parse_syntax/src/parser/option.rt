@@ -9,10 +9,10 @@ ghost use Rattle.protobuf_parse_lexer.specs.Text.{seen_by};
 ghost use Rattle.protobuf_parse_syntax.specs.ClassLaws.{lexicon};
 ghost use Rattle.protobuf_parse_syntax.specs.Productions as read;
 ghost use Rattle.protobuf_parse_syntax.specs.Trees as view;
-ghost use Rattle.protobuf_parse_syntax.specs.Code.{left, Gives, GivesOr, TooMany, LongName};
-ghost use Rattle.protobuf_parse_syntax.specs.Code.{AreEarlier, IsCommaAlone, IsListFront};
-ghost use Rattle.protobuf_parse_syntax.specs.Code.{LongBehind};
-ghost use Rattle.protobuf_parse_syntax.specs.Code.{begins_part};
+ghost use Rattle.protobuf_parse_syntax.specs.Code.{left, Gives, GivesOr, TooMany, IsWrong};
+ghost use Rattle.protobuf_parse_syntax.specs.Code.{LongName, Behind, AreEarlier, IsListFront};
+ghost use Rattle.protobuf_parse_syntax.specs.Code.{IsCommaAlone, begins_part};
+ghost use Rattle.protobuf_parse_syntax.specs.Grammar.{IsAssignment};
 ghost use Rattle.protobuf_parse_syntax.specs.Nested as nest;
 
 use crate::parser::constant::constant;
@@ -51,7 +51,7 @@ pub fn options(
     tokens: &mut Cursor<'_>,
     levels: usize,
 ) -> Result<Vec<ProtobufOption>, Refusal>
-    ensures { GivesOr (LongBehind (IsListFront levels) (left tokens.old))
+    ensures { GivesOr (IsWrong (Behind (IsListFront levels) LongName) (left tokens.old))
         (λ v. map view.option_syntax v.items) result (left tokens.new)
         ((nest.options levels).low.run (left tokens.old)) }
 {
@@ -62,13 +62,13 @@ pub fn options(
 }
 
 /// `"[" optname "=" constant { "," optname "=" constant } "]"`
-#[tactic(auto, unfolding(crate::specs::Nested::bracket_parts))]
+#[tactic(auto, unfolding(crate::specs::Nested::bracketed_options))]
 fn bracketed_options(
     alloc: Global,
     tokens: &mut Cursor<'_>,
     levels: usize,
 ) -> Result<Vec<ProtobufOption>, Refusal>
-    ensures { GivesOr (LongBehind (IsListFront levels) (left tokens.old))
+    ensures { GivesOr (IsWrong (Behind (IsListFront levels) LongName) (left tokens.old))
         (λ v. map view.option_syntax v.items) result (left tokens.new)
         ((nest.bracketed_options levels).low.run (left tokens.old)) }
 {
@@ -83,9 +83,9 @@ fn assignments(
     tokens: &mut Cursor<'_>,
     levels: usize,
 ) -> Result<Vec<ProtobufOption>, Refusal>
-    ensures { GivesOr (LongBehind (AreEarlier levels) (left tokens.old))
-        (λ v. map view.option_syntax v.items) result
-        (left tokens.new) ((nest.assignments levels).low.run (left tokens.old)) }
+    ensures { GivesOr (IsWrong (Behind (AreEarlier (IsAssignment levels)) LongName)
+        (left tokens.old)) (λ v. map view.option_syntax v.items) result (left tokens.new)
+        ((nest.assignments levels).low.run (left tokens.old)) }
 {
     let mut options = Vec::with_capacity(alloc, 1)?;
     options.push(assignment(alloc, tokens, levels)?)?;
@@ -102,8 +102,9 @@ fn comma_assignment(
     tokens: &mut Cursor<'_>,
     levels: usize,
 ) -> Result<ProtobufOption, Refusal>
-    ensures { GivesOr (LongBehind IsCommaAlone (left tokens.old)) view.option_syntax result
-        (left tokens.new) ((nest.comma_assignment levels).low.run (left tokens.old)) }
+    ensures { GivesOr (IsWrong (Behind IsCommaAlone LongName) (left tokens.old))
+        view.option_syntax result (left tokens.new)
+        ((nest.comma_assignment levels).low.run (left tokens.old)) }
 {
     tokens.symbol(',')?;
     assignment(alloc, tokens, levels)
@@ -116,8 +117,8 @@ fn assignment(
     tokens: &mut Cursor<'_>,
     levels: usize,
 ) -> Result<ProtobufOption, Refusal>
-    ensures { GivesOr (LongName (left tokens.old)) view.option_syntax result (left tokens.new)
-        ((nest.assignment levels).low.run (left tokens.old)) }
+    ensures { GivesOr (IsWrong LongName (left tokens.old)) view.option_syntax result
+        (left tokens.new) ((nest.assignment levels).low.run (left tokens.old)) }
 {
     let place = tokens.place();
     let name = option_name(alloc, tokens)?;
@@ -127,10 +128,10 @@ fn assignment(
 }
 
 /// `optname = optpart { "." optpart }`, of at most 100 parts
-#[tactic(auto, unfolding(crate::specs::Productions::option_name_parts), using(crate::specs::Code::fails_first))]
+#[tactic(auto, unfolding(crate::specs::Productions::option_name), using(crate::specs::Code::fails_first))]
 fn option_name(alloc: Global, tokens: &mut Cursor<'_>) -> Result<ProtobufOptionName, Refusal>
-    ensures { GivesOr (LongName (left tokens.old)) view.option_name_syntax result (left tokens.new)
-        (read.option_name.run (left tokens.old)) }
+    ensures { GivesOr (IsWrong LongName (left tokens.old)) view.option_name_syntax result
+        (left tokens.new) (read.option_name.run (left tokens.old)) }
 {
     let first = option_part(alloc, tokens)?;
     if tokens.sees_symbol('.') {

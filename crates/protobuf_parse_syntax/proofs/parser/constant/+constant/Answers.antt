@@ -85,8 +85,6 @@ constant_fields-returns t c =
     (map constant_field_syntax c.fields.fields.items) (left c.fields.tokens) _
     (sym c.begins_constant_name.ensures ∙ c.fields-test.false) c.fields.invariant
 
--- x
-
 pub message_constant-returns-in_err-symbol : goal.message_constant-returns-in_err-symbol
 unfolding nest.message_constant_of
 message_constant-returns-in_err-symbol t c =

@@ -1,7 +1,7 @@
 use Rattle.std.proofs.lemmas.Result.{err_from_is_err_and}
 use Rattle.protobuf_parse_syntax.specs.Nested as nest
 use Rattle.protobuf_parse_syntax.specs.Code.{left, fails_first}
-use Rattle.protobuf_parse_syntax.proofs.LongNames.{fails_value_options}
+use Rattle.protobuf_parse_syntax.proofs.OptionFaults.{fails_value_options}
 use Rattle.protobuf_parse_syntax.proofs.Wrongs.{fails_from_first}
 use Rattle.protobuf_parse_syntax.proofs.parser.enumeration.enum_value.Goals as goal
 

@@ -1,8 +1,8 @@
 use Rattle.std.proofs.lemmas.Result.{err_from_is_err_and}
 use Rattle.protobuf_parse_syntax.specs.Trees.{reserved_syntax}
 use Rattle.protobuf_parse_syntax.specs.Code.{left}
-use Rattle.protobuf_parse_syntax.proofs.Wrongs.{fails_reserved_word, fails_reserved_items}
-use Rattle.protobuf_parse_syntax.proofs.Wrongs.{fails_reserved_end}
+use Rattle.protobuf_parse_syntax.proofs.TextFaults.{fails_reserved_word, fails_reserved_items}
+use Rattle.protobuf_parse_syntax.proofs.TextFaults.{fails_reserved_end}
 use Rattle.protobuf_parse_syntax.proofs.parser.enumeration.reserved.Goals as goal
 
 pub returns-in_err-word : goal.returns-in_err-word

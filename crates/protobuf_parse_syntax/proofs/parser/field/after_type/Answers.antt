@@ -2,7 +2,7 @@ use Rattle.std.proofs.lemmas.Result.{err_from_is_err_and}
 use Rattle.protobuf_parse_syntax.specs.Nested as nest
 use Rattle.protobuf_parse_syntax.specs.Trees.{type_syntax}
 use Rattle.protobuf_parse_syntax.specs.Code.{left, fails_first}
-use Rattle.protobuf_parse_syntax.proofs.LongNames.{fails_field_options}
+use Rattle.protobuf_parse_syntax.proofs.OptionFaults.{fails_field_options}
 use Rattle.protobuf_parse_syntax.proofs.Wrongs.{fails_from_first}
 use Rattle.protobuf_parse_syntax.proofs.parser.field.after_type.Goals as goal
 

@@ -1,8 +1,8 @@
 use Rattle.std.proofs.lemmas.Result.{err_from_is_err_and}
 use Rattle.protobuf_parse_base.specs.PathViews.{path_buf_text}
 use Rattle.protobuf_parse_syntax.specs.Code.{left}
-use Rattle.protobuf_parse_syntax.proofs.Wrongs.{fails_import_word, fails_visibility}
-use Rattle.protobuf_parse_syntax.proofs.Wrongs.{fails_import_path, fails_import_end}
+use Rattle.protobuf_parse_syntax.proofs.TextFaults.{fails_import_word, fails_visibility}
+use Rattle.protobuf_parse_syntax.proofs.TextFaults.{fails_import_path, fails_import_end}
 use Rattle.protobuf_parse_syntax.proofs.parser.file.import.Goals as goal
 
 pub returns-in_err-word : goal.returns-in_err-word

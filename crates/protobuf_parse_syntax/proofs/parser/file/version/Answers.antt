@@ -1,8 +1,8 @@
 use Rattle.std.proofs.Common.{inl, sym, ◌∙◌}
 use Rattle.std.proofs.lemmas.Result.{err_from_is_err_and}
 use Rattle.protobuf_parse_syntax.specs.Code.{left}
-use Rattle.protobuf_parse_syntax.proofs.Wrongs.{version_runs, fails_syntax_word, fails_equals}
-use Rattle.protobuf_parse_syntax.proofs.Wrongs.{fails_said, fails_syntax_end}
+use Rattle.protobuf_parse_syntax.proofs.TextFaults.{version_runs, fails_syntax_word, fails_equals}
+use Rattle.protobuf_parse_syntax.proofs.TextFaults.{fails_said, fails_syntax_end}
 use Rattle.protobuf_parse_syntax.proofs.parser.file.version.Goals as goal
 
 pub returns-in_err-word : goal.returns-in_err-word

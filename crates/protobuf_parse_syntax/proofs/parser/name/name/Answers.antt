@@ -19,5 +19,3 @@ returns-in_err-rest c =
     c.from_residual-in_err-rest.ensures.1 in
     rw (p.1, p.2, sym c.sees_symbol.ensures ∙ c.if-not-sees_symbol.false, c.in_ok-symbol.ensures)
     (fails_first c.in_err-rest.field-0.0 _ _ _ c.in_err-rest.ensures)
-
--- x

@@ -6,9 +6,8 @@ use Rattle.protobuf_parse_grammar.specs.Loops.{with_rest, shows_themselves, goes
 use Rattle.protobuf_parse_syntax.specs.Trees.{OptionSyntax, option_syntax}
 use Rattle.protobuf_parse_syntax.specs.Nested as nest
 use Rattle.protobuf_parse_syntax.specs.Nested.{assignments_first}
-use Rattle.protobuf_parse_syntax.specs.Code.{left}
-use Rattle.protobuf_parse_syntax.proofs.LongNames.{fails_first_option, fails_later_option}
-use Rattle.protobuf_parse_syntax.proofs.LongNames.{first_read, next_read}
+use Rattle.protobuf_parse_syntax.specs.Code.{left, LongName}
+use Rattle.protobuf_parse_syntax.proofs.Lists.{first_read, next_read, wrong_item, wrong_later}
 use Rattle.protobuf_parse_syntax.proofs.parser.option.assignments.Goals as goal
 
 pub others-init : goal.others-init
@@ -22,26 +21,27 @@ others-init c =
           (λ (x : List OptionSyntax). x) v
           (run_many (nest.comma_assignment c.args.levels).low (left c.assignment.new.tokens)))
           (sym e),
-      first_read c.args.levels (left c.args.tokens.now) (left c.assignment.new.tokens)
+      first_read (nest.assignment c.args.levels).low (left c.args.tokens.now) (left c.assignment.new.tokens)
           (option_syntax c.in_ok-assignment.field-0) c.in_ok-assignment.ensures,
     )
 
 pub returns-in_err-assignment : goal.returns-in_err-assignment
+unfolding nest.assignments
 returns-in_err-assignment c =
     let p = err_from_is_err_and c.from_residual-in_err-assignment.result
     c.from_residual-in_err-assignment.ensures.1 in
     rw (p.1, p.2)
-    (fails_first_option c.args.levels c.in_err-assignment.field-0.0 (left c.args.tokens.now)
-    (left c.assignment.new.tokens) c.in_err-assignment.ensures)
+    (wrong_item (nest.assignment c.args.levels).low LongName c.in_err-assignment.field-0.0
+    (left c.args.tokens.now) (left c.assignment.new.tokens) _ c.in_err-assignment.ensures)
 
 pub returns-in_err-option : goal.returns-in_err-option
 returns-in_err-option c =
     let p = err_from_is_err_and c.from_residual-in_err-option.result
     c.from_residual-in_err-option.ensures.1 in
     rw (p.1, p.2)
-    (fails_later_option c.args.levels c.in_err-option.field-0.0 (left c.args.tokens.now)
-    (left c.comma_assignment.new.tokens) (left c.others.tokens)
-    (map option_syntax c.others.options.items)
+    (wrong_later (nest.assignment c.args.levels).low LongName c.in_err-option.field-0.0
+    (left c.args.tokens.now) (left c.comma_assignment.new.tokens) (left c.others.tokens)
+    (map option_syntax c.others.options.items) _
     (sym c.sees_symbol.ensures ∙ c.others-test.true) c.others.invariant.1 c.others.invariant.0
     c.in_err-option.ensures)
 
@@ -63,7 +63,7 @@ others-preserved c =
           (left c.comma_assignment.new.tokens) _
           (sym c.sees_symbol.ensures ∙ c.others-test.true) c.in_ok-option.ensures e
           c.others.invariant.0,
-      next_read c.args.levels (left c.args.tokens.now) (left c.others.tokens)
+      next_read (nest.assignment c.args.levels).low (left c.args.tokens.now) (left c.others.tokens)
           (left c.comma_assignment.new.tokens) (option_syntax c.in_ok-option.option)
           c.others.invariant.1 c.in_ok-option.ensures,
     )

@@ -1,8 +1,8 @@
 use Rattle.std.proofs.lemmas.Result.{err_from_is_err_and}
 use Rattle.protobuf_parse_syntax.specs.Trees.{option_syntax}
 use Rattle.protobuf_parse_syntax.specs.Code.{left}
-use Rattle.protobuf_parse_syntax.proofs.LongNames.{fails_option_word, fails_assignment}
-use Rattle.protobuf_parse_syntax.proofs.LongNames.{fails_option_end}
+use Rattle.protobuf_parse_syntax.proofs.OptionFaults.{fails_option_word, fails_assignment}
+use Rattle.protobuf_parse_syntax.proofs.OptionFaults.{fails_option_end}
 use Rattle.protobuf_parse_syntax.proofs.parser.option.option.Goals as goal
 
 pub returns-in_err-word : goal.returns-in_err-word
