@@ -1,3 +1,4 @@
+mod Copies
 pub mod Blaming
 pub mod Ascending
 pub mod Slots

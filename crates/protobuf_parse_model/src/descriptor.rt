@@ -1,6 +1,7 @@
 //! Descriptors of files and of what they declare: plain values, with the names of the messages of
 //! `google/protobuf/descriptor.proto`. Every list is in source order.
 
+mod clones;
 mod options;
 
 ghost use Rattle.std.specs.Prelude.{◌≡◌};
