@@ -1,7 +1,7 @@
 //! Parses `.proto` files and checks their types.
 #![tactic(auto)]
 
-mod laws;
+pub mod laws;
 mod parser;
 pub mod pure;
 pub mod trees;
@@ -36,7 +36,9 @@ pub use protobuf_parse_model::{
     ServiceDescriptorProto, ServiceOptions,
 };
 pub use protobuf_parse_options::{extensions_are_looked_up, never_too_deep, options_are_not_read};
-pub use protobuf_parse_rules::{NamedKind, Rule, Violation, numbers_are_apart, violations};
+pub use protobuf_parse_rules::{
+    NamedKind, Rule, Violation, numbers_are_apart, numbers_are_unique, violations,
+};
 pub use protobuf_parse_run::{
     CheckLog, FileReport, InputReader, ProtoPathResolver, ReadEntry, ReadInputFault, ReadOutcome,
     ResolveFault, ResolvedProtoFile, RunFault, RunInput, RunLog, bundled_files, check_inputs,

@@ -5,7 +5,7 @@ use Rattle.std.proofs.Common.{inr, arith, append_assoc, append-nil, get_or-take}
 use Rattle.std.specs.List.{list_all}
 use Rattle.std.proofs.lemmas.Bool.{false≢true, and_parts}
 use Rattle.std.proofs.lemmas.List.{get_or-map, length-map, take_more}
-use Rattle.protobuf_parse_lexer.specs.Scan.{is_no_backslash}
+use Rattle.protobuf_parse_lexer.specs.Tokens.{is_no_backslash}
 use Rattle.protobuf_parse_lexer.specs.Text.{Bytes, is_in, AllIn}
 use Rattle.protobuf_parse_lexer.specs.Tokens.{IsEscape, Decodes, done, as_is, escape, DecodesAll}
 use Rattle.protobuf_parse_lexer.specs.Tokens.{none, piece}

@@ -60,9 +60,6 @@ is_lone_symbol b =
 abbrev pub is_lone_point : Bytes → Bool
 is_lone_point z = slice_index z 0 == char.dot && not (is_in class.Digit (slice_index z 1))
 
-abbrev pub is_no_backslash : ℕ → Bool
-is_no_backslash b = not (b == char.backslash)
-
 -- a comment up to the end of its line begins there
 abbrev pub begins_line_comment : Bytes → Bool
 begins_line_comment z = slice_index z 0 == char.slash && slice_index z 1 == char.slash

@@ -4,7 +4,7 @@
 use Rattle.std.specs.Prelude.{◌≡◌, ◌≤◌, ◌<◌, ◌⊎◌, ℕ, ◌+◌, ◌-◌, ◌&&◌, nat_le, Bool, false, ◌||◌}
 use Rattle.std.specs.Prelude.{◌==◌, if◌then◌else◌, List, [], ◌∷◌, ◌++◌, length, slice_index}
 use Rattle.std.specs.Prelude.{slice_range, slice_get, take, drop, count_by, encode_utf8, Option}
-use Rattle.std.specs.Prelude.{Some, None}
+use Rattle.std.specs.Prelude.{Some, None, not}
 use Rattle.std.specs.Char.{IsScalar}
 use Rattle.std.specs.Str.{IsUtf8}
 use Rattle.std.specs.Str.Parse.{digits_value}
@@ -77,6 +77,10 @@ abbrev pub unquoted : Bytes → Bytes
 unquoted z =
     if nat_le 2 (length z) && is_quote (slice_index z 0) && is_quote (slice_index z (length z - 1))
     then slice_range z 1 (length z - 1) else []
+
+-- with such a byte no escape begins
+abbrev pub is_no_backslash : ℕ → Bool
+is_no_backslash b = not (b == char.backslash)
 
 -- behind a backslash these characters stand for themselves: \\ \' \" \?
 abbrev pub stands_for_itself : ℕ → Bool

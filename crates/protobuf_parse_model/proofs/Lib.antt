@@ -7,7 +7,7 @@ pub mod TreeViews
 pub mod Scopes
 pub mod FileOrder
 pub mod DeclaredAt
-pub mod DeclaredPlaces
+pub mod NamesWithPlaces
 pub mod LastDeclared
 pub mod Tables
 pub mod ByHash

@@ -3,10 +3,10 @@
 ghost use Rattle.std.specs.Prelude.{◌≡◌, ◌<◌, ◌≤◌, ℕ, [], ◌∷◌, ◌++◌, true, length, map};
 ghost use Rattle.std.specs.Prelude.{MatchOption, OnOk, IfOk, IfErr, string_bytes};
 ghost use Rattle.std.specs.List.{list_all};
-ghost use Rattle.protobuf_parse_lexer.specs.Scan.{is_no_backslash};
 ghost use Rattle.protobuf_parse_lexer.specs.Text.{is_in};
 ghost use Rattle.protobuf_parse_lexer.specs.Tokens as tokens;
 ghost use Rattle.protobuf_parse_lexer.specs.Tokens.{IsDigits, DecodesAll, StandsFor};
+ghost use Rattle.protobuf_parse_lexer.specs.Tokens.{is_no_backslash};
 ghost use Rattle.protobuf_parse_lexer.specs.PieceParts.{NamesByte, NamesNoByte, NamesChar};
 ghost use Rattle.protobuf_parse_lexer.specs.PieceParts.{NamesNoChar, HasEscape, HasNoEscape};
 ghost use Rattle.protobuf_parse_lexer.specs.Decoding.{meaning_bytes};

@@ -111,7 +111,7 @@ impl<'text> Tokenizer<'text> {
             → length s.tokens ≤ length text.now) }
 
         // So many bytes stand behind each.
-        ensures behinds { IfOk result (λ t. (ns : List ℕ) → LiesBehind t ns
+        ensures bytes { IfOk result (λ t. (ns : List ℕ) → LiesBehind t ns
             ↔ BehindIn 0 0 (drop (mark_len text.now) text.now) ns) }
 
         // What is too long is refused.
@@ -156,7 +156,7 @@ impl<'text> Tokenizer<'text> {
     /// Goes past the next token, if one is left.
     pub fn advance(&mut self)
         ensures tokens { (s : Stream) → LiesAhead self.old s → LiesAhead self.new (behind s) }
-        ensures behinds { (ns : List ℕ) → LiesBehind self.old ns
+        ensures bytes { (ns : List ℕ) → LiesBehind self.old ns
             → LiesBehind self.new (drop 1 ns) }
     {
         self.go_past()

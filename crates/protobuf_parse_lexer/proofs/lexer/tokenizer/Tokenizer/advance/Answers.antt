@@ -5,5 +5,5 @@ use Rattle.protobuf_parse_lexer.proofs.lexer.tokenizer.Tokenizer.advance.Goals a
 pub returns-clause-tokens : goal.returns-clause-tokens
 returns-clause-tokens c = gone_past c.args.self.now c.go_past.new.self c.go_past.ensures.tokens
 
-pub returns-clause-behinds : goal.returns-clause-behinds
-returns-clause-behinds c = gone_behind c.args.self.now c.go_past.new.self c.go_past.ensures.behinds
+pub returns-clause-bytes : goal.returns-clause-bytes
+returns-clause-bytes c = gone_behind c.args.self.now c.go_past.new.self c.go_past.ensures.behinds

@@ -36,7 +36,7 @@ returns-clause-few c = λ s h.
     ∙ lies_ahead_only c.cut_next.new.self s h)
     (few_in_text c.args.text.now)
 
-pub returns-clause-behinds : goal.returns-clause-behinds
-returns-clause-behinds c =
+pub returns-clause-bytes : goal.returns-clause-bytes
+returns-clause-bytes c =
     text_behind c.cut_next.new.self 0 0 (drop (mark_len c.args.text.now) c.args.text.now)
     (c.cut_next.ensures.behinds ∙ ap (behinds 0 0) c.past_mark.ensures.rest)
