@@ -38,8 +38,7 @@ impl KnownMessage<'_> {
 }
 
 /// An enum with its full name, the path of its file, whether that is one of proto3, and the names
-/// of
-/// its values.
+/// of its values.
 #[derive(Drop)]
 pub struct KnownEnum<'a> {
     pub file: &'a str,

@@ -695,18 +695,18 @@ module _ (files : Files) (loaded : List LoadedEntry) (tables : Tables) (log : Li
       file_faults (environment (picked (with_next loaded t) sight)
       (customs_over descriptors reach sight) t) t)) any
       ∙ ap (λ (fs : List elaborating.Fault). before_others (own_faults files p (Some t))
-      (if list_any (is_faulty files) (files.reached p) then [] else fs)) (customs-told-same h)
+      (if list_any (is_faulty files) (files.reached p) then [] else fs)) (customs-told-equal h)
 
-  told-same : linked ≡ []
+  told-equal : linked ≡ []
       → before_others (own_over (with_next loaded t) sight t)
       (file_faults (environment (picked (with_next loaded t) sight)
       (customs_over descriptors reach sight) t) t)
       ≡ before_others (own_faults files p (Some t)) (file_faults (environment_of files p t) t)
-  told-same h =
+  told-equal h =
       ap (λ (fs : List elaborating.Fault). before_others fs
       (file_faults (environment (picked (with_next loaded t) sight)
       (customs_over descriptors reach sight) t) t)) (own-same h)
-      ∙ ap (before_others (own_faults files p (Some t))) (customs-told-same h)
+      ∙ ap (before_others (own_faults files p (Some t))) (customs-told-equal h)
 
   pub ending-told : (gathers : Bool) (f : elaborating.Fault)
       → IsToldOver gathers loaded (with_next loaded t) descriptors reach sight t f
@@ -715,7 +715,7 @@ module _ (files : Files) (loaded : List LoadedEntry) (tables : Tables) (log : Li
       told-moved repeats repeats_in [] [] f repeats-told (λ none. (repeats-again none, refl)) h
   ending-told false f h =
       told-moved repeats repeats_in _ _ f repeats-told
-      (λ none. (repeats-again none, told-same (repeats-none none))) h
+      (λ none. (repeats-again none, told-equal (repeats-none none))) h
 
 -- a fault of elaboration stands wherever its fault does
 stands-more : (origin : Text) (Over At : elaborating.Fault → Type 0) (f : RunFault)

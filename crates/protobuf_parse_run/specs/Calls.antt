@@ -128,8 +128,7 @@ MeetsAt may_answer may_read sources input asked path old new result =
     new.reads.items result
 
 -- What comes of meeting a file: nothing more is loaded, one meeting is counted, and at most one
--- read
--- is added.
+-- read is added.
 pub record MeetsFile {R I : Type 0} (may_answer : R → MayResolve) (may_read : I → MayRead)
     (sources : Sources R I) (input : Text) (asked : Asked) (path : Text) (old new : Loader)
     (result : Result Met RunFault) : Type 0 where
