@@ -1,8 +1,8 @@
 -- What the readers of constants read, where the next tokens are known.
 use Rattle.std.proofs.Common.{◌≡◌, ℕ, ℤ, pos, [], ◌∷◌, Option, Some, None, Bool, true, false}
-use Rattle.std.proofs.Common.{◌||◌, refl, inl, inr}
+use Rattle.std.proofs.Common.{◌||◌, refl, inl, inr, ◌∙◌}
 use Rattle.protobuf_parse_grammar.specs.Readers.{Rest, end, token, Read, read, stuck, wrong, bind}
-use Rattle.protobuf_parse_grammar.specs.Readers.{starts, or_true, or_left}
+use Rattle.protobuf_parse_grammar.specs.Readers.{starts, starts-append, or_true, or_left}
 use Rattle.protobuf_parse_grammar.specs.Relations.{seen}
 use Rattle.protobuf_parse_grammar.specs.Combinators.{run_one, taken}
 use Rattle.protobuf_parse_grammar.specs.Readers.{all_apart-law}
@@ -10,6 +10,7 @@ use Rattle.protobuf_parse_grammar.specs.Conditions.{meaning}
 use Rattle.protobuf_parse_lexer.specs.Tokens.{Lexeme}
 use Rattle.protobuf_parse_lexer.specs.Text.{Bytes}
 use Rattle.protobuf_parse_lexer.specs.Classes.{sees, symbol as symbol_class, integer, float, text}
+use Rattle.protobuf_parse_lexer.specs.Classes.{ident}
 use Rattle.protobuf_parse_lexer.specs.Classes.{is_one_of, is_floating, is_string}
 use Rattle.protobuf_parse_lexer.specs.declared.lexer.token.Place.{Place}
 use Rattle.protobuf_parse_lexer.specs.declared.lexer.token.TokenKind.{TokenKind}
@@ -22,6 +23,9 @@ use Rattle.protobuf_parse_syntax.specs.Productions.{symbol, signed_by, sign_and,
 use Rattle.protobuf_parse_syntax.specs.Productions.{or_floating, plus, minus, number-law, small-law}
 use Rattle.protobuf_parse_syntax.specs.Productions.{str}
 use Rattle.protobuf_parse_syntax.specs.Code.{off, comes, Fails, SignedFloat, floats_second}
+use Rattle.protobuf_parse_syntax.specs.Code.{Comes, is_end}
+use Rattle.protobuf_parse_syntax.specs.Parsing.{BeginsNoConstant}
+use Rattle.protobuf_parse_syntax.specs.Nested.{constant_firsts}
 use Rattle.protobuf_parse_syntax.specs.declared.parser.refusal.Refusal.TheVariants.{Fault}
 
 -- ---- signs
@@ -172,3 +176,31 @@ unfolding starts
 no_other_constant (end m) h = absurd cc
 no_other_constant (token t rest) h =
     all_apart-law lexicon (symbol_class 123 ∷ []) other_constants t refl h
+
+-- the first tokens of constants, apart
+pub none_begins : (ts : Rest Lexeme Place) → starts lexicon (symbol_class 123 ∷ []) ts ≡ false
+    → starts lexicon (symbol_class 91 ∷ []) ts ≡ false → starts lexicon (ident [] ∷ []) ts ≡ false
+    → starts lexicon (integer ∷ symbol_class 43 ∷ symbol_class 45 ∷ []) ts ≡ false
+    → starts lexicon (text ∷ []) ts ≡ false → starts lexicon constant_firsts ts ≡ false
+none_begins ts brace bracket word digits string =
+    starts-append lexicon (symbol_class 123 ∷ [])
+    (symbol_class 91 ∷ ident [] ∷ integer ∷ symbol_class 43 ∷ symbol_class 45 ∷ text ∷ []) ts
+    ∙ rw (
+      brace,
+      starts-append lexicon (symbol_class 91 ∷ [])
+          (ident [] ∷ integer ∷ symbol_class 43 ∷ symbol_class 45 ∷ text ∷ []) ts,
+      bracket,
+      starts-append lexicon (ident [] ∷ [])
+          (integer ∷ symbol_class 43 ∷ symbol_class 45 ∷ text ∷ []) ts,
+      word,
+      starts-append lexicon (integer ∷ symbol_class 43 ∷ symbol_class 45 ∷ []) (text ∷ []) ts,
+      digits,
+      string,
+    ) refl
+
+-- with the next token no constant begins, and it is no float
+pub begins_none : (ts : Rest Lexeme Place) → starts lexicon constant_firsts ts ≡ false
+    → starts lexicon (float ∷ []) ts ≡ false → is_end ts ≡ false → Comes BeginsNoConstant ts
+unfolding starts
+begins_none (end m) h i e = absurd cc
+begins_none (token t rest) h i e = rw (or_left (sees float t) false i) h

@@ -1,7 +1,7 @@
 -- What readers of fields read.
 use Rattle.std.proofs.Common.{◌≡◌, ◌≤◌, ◌-◌, ℕ, suc, List, [], ◌∷◌, ◌++◌, Option, Some, None, Bool}
 use Rattle.std.proofs.Common.{true, false, not, is_some, ◌||◌, cond, bytes_eq, refl, ◌∙◌, codes}
-use Rattle.std.proofs.Common.{inl, arith}
+use Rattle.std.proofs.Common.{arith}
 use Rattle.protobuf_parse_grammar.specs.Relations.{somes}
 use Rattle.protobuf_parse_grammar.specs.Readers.{Rest, end, token, read, stuck, bind}
 use Rattle.protobuf_parse_grammar.specs.Relations.{seen}
@@ -13,8 +13,6 @@ use Rattle.protobuf_parse_lexer.specs.Text.{Bytes}
 use Rattle.protobuf_parse_lexer.specs.Tokens.{Lexeme}
 use Rattle.protobuf_parse_lexer.specs.Classes.{Class, symbol as symbol_class, word as word_class}
 use Rattle.protobuf_parse_lexer.specs.Classes.{ident as ident_class, sees, is_among, words}
-use Rattle.protobuf_parse_lexer.specs.declared.error.ParserError.{ParserError}
-use Rattle.protobuf_parse_lexer.specs.declared.error.ParserError.TheVariants as error
 use Rattle.protobuf_parse_lexer.specs.declared.lexer.token.Place.{Place}
 use Rattle.protobuf_parse_lexer.specs.declared.lexer.token.TokenKind.{TokenKind}
 use Rattle.protobuf_parse_lexer.specs.declared.lexer.token.TokenKind.TheVariants as kind
@@ -26,8 +24,6 @@ use Rattle.protobuf_parse_syntax.specs.Nested as nest
 use Rattle.protobuf_parse_syntax.specs.Nested.{field_of, after_label, group_of, field_block_of}
 use Rattle.protobuf_parse_syntax.specs.Nested.{field_items_of, field_item_of, normal_field}
 use Rattle.protobuf_parse_syntax.specs.Nested.{map_field, map_of, oneof_field}
-use Rattle.protobuf_parse_syntax.specs.Code.{AtOneToken, Fails, Stands}
-use Rattle.protobuf_parse_syntax.specs.declared.parser.refusal.Refusal.TheVariants.{Fault}
 use Rattle.protobuf_parse_syntax.specs.Words.{Finds}
 use Rattle.protobuf_parse_syntax.specs.Fields.{type_more, type_named, after_label_in}
 use Rattle.protobuf_parse_syntax.specs.Fields.{reads_map_field, labels_in, group_firsts, field_in}
@@ -248,15 +244,16 @@ no_name (token t rest) b h = go t.kind b h
     go kind.Str b h = refl
     go (kind.Symbol c) b h = b
 
-absent : (s : Syntax) (j : ℕ) (ts : Rest Lexeme Place)
+-- no field begins with the next token
+pub field_absent : (s : Syntax) (j : ℕ) (ts : Rest Lexeme Place)
     → starts lexicon (nest.field_firsts s) ts ≡ false → (field_in s j).run ts ≡ stuck ts
 unfolding map_of field_of after_label group_of field_block_of field_items_of field_item_of
-absent Proto2 j ts h =
+field_absent Proto2 j ts h =
     let w = word_absent (codes "map") ts
     (last-of lexicon (words (table_words labels)) (word_class (codes "map") ∷ []) ts h) in
     mapped j ts (first-of lexicon (words (table_words labels)) (word_class (codes "map") ∷ []) ts h)
     ∙ rw w refl
-absent Proto3 j ts h = go (starts lexicon (words (table_words labels ++ statement_words)) ts) refl
+field_absent Proto3 j ts h = go (starts lexicon (words (table_words labels ++ statement_words)) ts) refl
   where
     go : (b : Bool) → starts lexicon (words (table_words labels ++ statement_words)) ts ≡ b
         → (field_in Proto3 j).run ts ≡ stuck ts
@@ -273,20 +270,3 @@ absent Proto3 j ts h = go (starts lexicon (words (table_words labels ++ statemen
           k,
         ) (after_absent Proto3 (suc j) j (mark_of place_of ts) None ts (omega arith)
         (no_name ts h k))
-
-stands : (e : ParserError) (ts : Rest Lexeme Place) → AtOneToken e → Stands e ts
-stands error.IncorrectInput ts h = tt
-stands error.ExpectConstant ts h = tt
-stands error.LabelNotAllowed ts h = tt
-stands error.LabelRequired ts h = tt
-stands error.GroupNameShouldStartWithUpperCase ts h = tt
-stands error.MapFieldNotAllowed ts h = tt
-stands error.OneOfInGroup ts h = tt
-stands error.OnlyFieldsInGroup ts h = tt
-stands e ts h = absurd h
-
--- no field begins with the next token
-pub field_absent : (s : Syntax) (j : ℕ) (ts : Rest Lexeme Place) (e : ParserError)
-    → starts lexicon (nest.field_firsts s) ts ≡ false → AtOneToken e
-    → Fails (Fault e) ts ((field_in s j).run ts)
-field_absent s j ts e h f = inl (absent s j ts h, stands e ts f)

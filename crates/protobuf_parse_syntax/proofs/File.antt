@@ -1,10 +1,10 @@
 -- What the reader of a file gives, said of the grammar.
 use Rattle.std.proofs.Common.{◌≡◌, ℕ, ◌+◌, List, [], ◌∷◌, ◌++◌, true, false, add-zero}
-use Rattle.std.proofs.Common.{refl, sym, ap, subst, ◌∙◌, inl, inr, ◌⊎◌}
+use Rattle.std.proofs.Common.{refl, sym, ap, subst, ◌∙◌, inl, inr, ◌⊎◌, codes}
 use Rattle.std.proofs.lemmas.List.{append-nil}
 use Rattle.protobuf_parse_grammar.specs.Readers.{deep, Rest, end, token, onto, onto-append, read}
 use Rattle.protobuf_parse_grammar.specs.Readers.{stuck}
-use Rattle.protobuf_parse_grammar.specs.Readers.{wrong, Begins, starts}
+use Rattle.protobuf_parse_grammar.specs.Readers.{wrong, Begins, starts, begins-starts, read_parts}
 use Rattle.protobuf_parse_grammar.specs.Relations.{BeginsOtherwise}
 use Rattle.protobuf_parse_lexer.specs.Tokens.{Lexeme}
 use Rattle.protobuf_parse_grammar.specs.Conditions.{mark_of}
@@ -12,7 +12,7 @@ use Rattle.protobuf_parse_grammar.specs.Whole.{whole, left_whole, local_stuck, l
 use Rattle.protobuf_parse_grammar.specs.Relations.{StopsAt}
 use Rattle.protobuf_parse_grammar.specs.Whole.{deep_found, deep_only, deep_wrong}
 use Rattle.protobuf_parse_grammar.specs.Whole.{deep_stops, deep_leaves}
-use Rattle.protobuf_parse_lexer.specs.Classes.{symbol, float, text, is_one_of, is_floating}
+use Rattle.protobuf_parse_lexer.specs.Classes.{symbol, word, float, text, is_one_of, is_floating}
 use Rattle.protobuf_parse_lexer.specs.Cut.{out_of_memory}
 use Rattle.protobuf_parse_lexer.specs.Cut.{error_place as place_at}
 use Rattle.protobuf_parse_lexer.specs.declared.error.ParserErrorWithLocation.{ParserErrorWithLocation}
@@ -27,17 +27,26 @@ use Rattle.protobuf_parse_syntax.specs.Grammar.{IsFile, IsStr, place_of}
 use Rattle.protobuf_parse_syntax.specs.Productions as parse
 use Rattle.protobuf_parse_syntax.specs.Nested as nest
 use Rattle.protobuf_parse_syntax.specs.Readings.{steady-near}
-use Rattle.protobuf_parse_syntax.specs.Parsing.{NoTree, StandsAt, LargeToken}
+use Rattle.protobuf_parse_syntax.specs.Parsing.{NoTree, StandsAt, TokenAt, IsLarge, NotProto3}
+use Rattle.protobuf_parse_syntax.specs.Parsing.{BeginsNoConstant, IsLowName, IsLabelWord}
+use Rattle.protobuf_parse_syntax.specs.Parsing.{IsUnlabelled, IsTheWord, IsOtherStatement}
 use Rattle.protobuf_parse_syntax.specs.Parsing.{EndsWithParts, EndsWithImport, SyntaxHead}
 use Rattle.protobuf_parse_syntax.specs.Parsing.{NextPart, Floats, StandsBehind, WrongStrings}
 use Rattle.protobuf_parse_syntax.specs.Parsing.{SaysNothing, IsGrammarFault}
 use Rattle.protobuf_parse_syntax.specs.Code.{Stands, Says, Tells, Fails, Failure, failed, IsWrong}
 use Rattle.protobuf_parse_syntax.specs.Code.{NoVersion, NoOption, NoPath, NoName, of_path}
 use Rattle.protobuf_parse_syntax.specs.Code.{of_version}
-use Rattle.protobuf_parse_syntax.specs.Code.{SaysNot, SignedFloat, IsLargeNext, comes, begins_part}
-use Rattle.protobuf_parse_syntax.specs.Code.{is_end, RefusesFile, error_at}
+use Rattle.protobuf_parse_syntax.specs.Code.{SaysNot, SignedFloat, Comes, comes, begins_part}
+use Rattle.protobuf_parse_syntax.specs.Code.{is_end, RefusesFile, error_at, Unfit, FileFails}
 use Rattle.protobuf_parse_syntax.specs.declared.parser.refusal.Refusal.{Refusal}
 use Rattle.protobuf_parse_syntax.specs.declared.parser.refusal.Refusal.TheVariants.{Memory, Fault}
+use Rattle.protobuf_parse_syntax.specs.declared.parser.refusal.Refusal.TheVariants.{NoField}
+use Rattle.protobuf_parse_syntax.specs.declared.parser.refusal.Refusal.TheVariants.{NoGroupField}
+use Rattle.protobuf_parse_syntax.specs.declared.parser.refusal.Refusal.TheVariants.{NoOneofField}
+use Rattle.protobuf_parse_syntax.specs.declared.tree.Syntax.{Syntax}
+use Rattle.protobuf_parse_syntax.specs.declared.tree.Syntax.TheVariants.{Proto2, Proto3}
+use Rattle.protobuf_parse_syntax.proofs.TextFaults.{version_runs}
+use Rattle.protobuf_parse_syntax.proofs.Words.{nothing_starts}
 
 -- ---- a token at a place
 
@@ -63,12 +72,11 @@ stands_at P ts used m t rest e p = let k = left_whole ts used m (token t rest) e
           is = p us r;
         }
 
-large_at : (ts used : List Lexeme) (m : Place) (after : Rest Lexeme Place)
-    → whole ts m ≡ onto used after → IsLargeNext after
-    → StandsAt LargeToken ts (mark_of place_of after)
-large_at ts used m (end n) e large = absurd large
-large_at ts used m (token t rest) e large =
-    stands_at LargeToken ts used m t rest e (λ back f. large)
+token_at : (P : Lexeme → Type 0) (ts used : List Lexeme) (m : Place) (after : Rest Lexeme Place)
+    → whole ts m ≡ onto used after → Comes P after → TokenAt P ts (mark_of place_of after)
+token_at P ts used m (end n) e h = absurd h
+token_at P ts used m (token t rest) e h =
+    stands_at (λ front u back. P u) ts used m t rest e (λ back f. h)
 
 float_next : (used back : List Lexeme) (t : Lexeme) → is_one_of (float ∷ []) t ≡ true
     → Floats used t back
@@ -151,6 +159,21 @@ same_fault e x h = cc
 
 -- ---- a file
 
+-- A file whose version is proto2 does not begin with a statement that says proto3.
+not_proto3 : (ts : List Lexeme) (m : Place) (us : Rest Lexeme Place)
+    → parse.version_statement.run (whole ts m) ≡ read Proto2 us → NotProto3 ts
+not_proto3 ts m us e front back parts is =
+    let w = onto front (whole back m) in
+    let same : whole ts m ≡ w = ap (λ (v : List Lexeme). whole v m) parts
+    ∙ onto-append front back (end m) in
+    let begins = begins-starts lexicon (word (codes "syntax") ∷ []) false front (whole back m)
+    refl (parse.syntax.begins front Proto3 is) in
+    let reads = parse.syntax.complete refl front Proto3 (whole back m) is
+    (nothing_starts (whole back m)) in
+    let p = read_parts Proto3 Proto2 (whole back m) us
+    (sym (version_runs w begins ∙ reads) ∙ sym (ap parse.version_statement.run same) ∙ e) in
+    absurd (let q : Proto3 ≡ Proto2 = p.0 in cc)
+
 no_tree_behind : (ts : List Lexeme) (last place : Place) → StopsAt place_of IsFile ts last place
     → NoTree ts
 no_tree_behind ts last place s t w =
@@ -226,27 +249,45 @@ module _ (ts : List Lexeme) (m : Place) (n : ℕ) where
             → (used : List Lexeme) → whole ts m ≡ onto used after → Stands e after
             → IsGrammarFault ts m e (mark_of place_of after)
         go error.IncorrectInput stop used parts s = stop
-        go error.ExpectConstant stop used parts s = stop
-        go error.LabelNotAllowed stop used parts s = stop
-        go error.LabelRequired stop used parts s = stop
-        go error.GroupNameShouldStartWithUpperCase stop used parts s = stop
-        go error.MapFieldNotAllowed stop used parts s = stop
-        go error.OneOfInGroup stop used parts s = stop
-        go error.OnlyFieldsInGroup stop used parts s = stop
-        go error.IntegerOverflow stop used parts s = (stop, large_at ts used m after parts s)
+        go error.ExpectConstant stop used parts s =
+            (stop, token_at BeginsNoConstant ts used m after parts s)
+        go error.GroupNameShouldStartWithUpperCase stop used parts s =
+            (stop, token_at IsLowName ts used m after parts s)
+        go error.IntegerOverflow stop used parts s =
+            (stop, token_at IsLarge ts used m after parts s)
         go error.FloatConstant stop used parts s =
             (none_if_stuck after h, float_at ts used m after parts s)
-        go error.Memory stop used parts s = absurd s
-        go error.UnexpectedCharacter stop used parts s = absurd s
-        go error.UnterminatedComment stop used parts s = absurd s
-        go error.UnterminatedString stop used parts s = absurd s
-        go error.BadNumber stop used parts s = absurd s
-        go error.NestingTooDeep stop used parts s = absurd s
-        go error.OptionNameTooLong stop used parts s = absurd s
-        go error.UnknownSyntax stop used parts s = absurd s
-        go error.StrLitDecode stop used parts s = absurd s
-        go (error.BadImportPath f) stop used parts s = absurd s
-        go error.TextTooLong stop used parts s = absurd s
+        go _ stop used parts s = absurd s
+
+    -- no statement of a body begins with the next token
+    unfit_fault : (e : ParserError) (after us : Rest Lexeme Place) (syntax : Syntax)
+        → parse.version_statement.run (whole ts m) ≡ read syntax us
+        → (nest.files n).low.run (whole ts m) ≡ stuck after → Unfit syntax e after
+        → IsGrammarFault ts m e (mark_of place_of after)
+    unfit_fault e after us syntax version h unfit =
+        let stop = deep_stops (λ i. (nest.file i).low)
+        (steady-near nest.file nest.file-same) refl n ts m after enough h in
+        let l = local_stuck (nest.file n).low refl (whole ts m) after h in
+        go e stop l.used l.parts unfit
+      where
+        go : (e : ParserError) → StopsAt place_of IsFile ts m (mark_of place_of after)
+            → (used : List Lexeme) → whole ts m ≡ onto used after → Unfit syntax e after
+            → IsGrammarFault ts m e (mark_of place_of after)
+        go error.IncorrectInput stop used parts s = stop
+        go error.LabelNotAllowed stop used parts s =
+            (stop, token_at IsLabelWord ts used m after parts s)
+        go error.LabelRequired stop used parts s = (
+          stop,
+          token_at IsUnlabelled ts used m after parts s.1,
+          not_proto3 ts m us (version ∙ ap (λ (v : Syntax). read v us) s.0),
+        )
+        go error.MapFieldNotAllowed stop used parts s =
+            (stop, token_at (IsTheWord (codes "map")) ts used m after parts s)
+        go error.OneOfInGroup stop used parts s =
+            (stop, token_at (IsTheWord (codes "oneof")) ts used m after parts s)
+        go error.OnlyFieldsInGroup stop used parts s =
+            (stop, token_at IsOtherStatement ts used m after parts s)
+        go _ stop used parts s = absurd s
 
     -- strings say nothing
     strings_at_fault : (e : ParserError) (used : List Lexeme) (after : Rest Lexeme Place)
@@ -367,37 +408,39 @@ module _ (ts : List Lexeme) (m : Place) (n : ℕ) where
 
     pub refused : (e : Refusal) (after : Rest Lexeme Place)
         → Fails e after ((nest.files n).low.run (whole ts m))
-        ⊎ IsWrong NoVersion (whole ts m) e after ((nest.files n).low.run (whole ts m))
+        ⊎ FileFails (whole ts m) e after ((nest.files n).low.run (whole ts m))
         → RefusesFile ts m e (mark_of place_of after)
     refused Memory after h = tt
     refused (Fault e) after (inl (inl h)) = next_fault e after h.0 h.1
     refused (Fault e) after (inl (inr h)) = here_fault e after h.0 h.1 h.2
-    refused (Fault e) after (inr h) = version_fault e after h
+    refused (Fault e) after (inr (inl h)) = version_fault e after h
+    refused (Fault e) after (inr (inr (x, same, stands, (syntax, us, version, unfit)))) =
+        rw (same_fault e x same) (unfit_fault x after us syntax version stands unfit)
+    refused NoField after (inl h) = next_fault error.IncorrectInput after h tt
+    refused NoGroupField after (inl h) = next_fault error.IncorrectInput after h tt
+    refused NoOneofField after (inl h) = next_fault error.IncorrectInput after h tt
+    refused _ after (inr (inl h)) = let p = h.1 in absurd cc
+    refused _ after (inr (inr h)) = let p = h.1 in absurd cc
 
 -- where a fault stands there is no tree
 pub fault_none : (ts : List Lexeme) (last place : Place) (e : ParserError)
     → IsGrammarFault ts last e place → NoTree ts
 fault_none ts last place error.IncorrectInput h = no_tree_behind ts last place h
-fault_none ts last place error.ExpectConstant h = no_tree_behind ts last place h
-fault_none ts last place error.LabelNotAllowed h = no_tree_behind ts last place h
-fault_none ts last place error.LabelRequired h = no_tree_behind ts last place h
-fault_none ts last place error.GroupNameShouldStartWithUpperCase h = no_tree_behind ts last place h
-fault_none ts last place error.MapFieldNotAllowed h = no_tree_behind ts last place h
-fault_none ts last place error.OneOfInGroup h = no_tree_behind ts last place h
-fault_none ts last place error.OnlyFieldsInGroup h = no_tree_behind ts last place h
+fault_none ts last place error.ExpectConstant h = no_tree_behind ts last place h.0
+fault_none ts last place error.LabelNotAllowed h = no_tree_behind ts last place h.0
+fault_none ts last place error.LabelRequired h = no_tree_behind ts last place h.0
+fault_none ts last place error.GroupNameShouldStartWithUpperCase h =
+    no_tree_behind ts last place h.0
+fault_none ts last place error.MapFieldNotAllowed h = no_tree_behind ts last place h.0
+fault_none ts last place error.OneOfInGroup h = no_tree_behind ts last place h.0
+fault_none ts last place error.OnlyFieldsInGroup h = no_tree_behind ts last place h.0
 fault_none ts last place error.IntegerOverflow h = no_tree_behind ts last place h.0
 fault_none ts last place error.OptionNameTooLong h = h.0
 fault_none ts last place error.FloatConstant h = h.0
 fault_none ts last place error.UnknownSyntax h = h.0
 fault_none ts last place error.StrLitDecode h = h.0
 fault_none ts last place (error.BadImportPath e) h = h.0
-fault_none ts last place error.Memory h = absurd h
-fault_none ts last place error.UnexpectedCharacter h = absurd h
-fault_none ts last place error.UnterminatedComment h = absurd h
-fault_none ts last place error.UnterminatedString h = absurd h
-fault_none ts last place error.BadNumber h = absurd h
-fault_none ts last place error.NestingTooDeep h = absurd h
-fault_none ts last place error.TextTooLong h = absurd h
+fault_none ts last place _ h = absurd h
 
 -- what a refusal says, or else
 pub told_or : {A : Type 0} (ts : List Lexeme) (m : Place) (e : Refusal) (next : Place)
@@ -405,3 +448,6 @@ pub told_or : {A : Type 0} (ts : List Lexeme) (m : Place) (e : Refusal) (next : 
     → (r ≡ out_of_memory) ⊎ A ⊎ IsGrammarFault ts m r.error (place_at r)
 told_or ts m Memory next r h e = inl e
 told_or ts m (Fault x) next r h e = inr (inr (rw e h))
+told_or ts m NoField next r h e = inr (inr (rw e h))
+told_or ts m NoGroupField next r h e = inr (inr (rw e h))
+told_or ts m NoOneofField next r h e = inr (inr (rw e h))

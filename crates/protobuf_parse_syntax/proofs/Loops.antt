@@ -1,6 +1,6 @@
 -- Loops of the parser: what an iteration keeps, and how a loop ends.
 use Rattle.std.proofs.Common.{◌≡◌, List, [], ◌∷◌, ◌++◌, ◌<◌, map, Option, Some, None, true, false}
-use Rattle.std.proofs.Common.{refl, sym, ap, ◌∙◌, inl, inr, append_assoc}
+use Rattle.std.proofs.Common.{refl, sym, ap, ◌∙◌, append_assoc}
 use Rattle.std.specs.Option.{option_to_list}
 use Rattle.std.proofs.lemmas.List.{map_push, append-nil}
 use Rattle.protobuf_parse_grammar.specs.Relations.{Then, somes}
@@ -17,9 +17,9 @@ use Rattle.protobuf_parse_lexer.specs.declared.lexer.token.Place.{Place}
 use Rattle.protobuf_parse_syntax.specs.Grammar.{dots, IsComma}
 use Rattle.protobuf_parse_syntax.specs.ClassLaws.{lexicon}
 use Rattle.protobuf_parse_syntax.specs.Productions.{symbol}
-use Rattle.protobuf_parse_syntax.specs.Code.{Fails, fails_first, Failure, at, off, too_deep, failed}
+use Rattle.protobuf_parse_syntax.specs.Code.{Fails, fails_first, fails_alike, Failure}
+use Rattle.protobuf_parse_syntax.specs.Code.{at, off, too_deep, failed}
 use Rattle.protobuf_parse_syntax.specs.declared.parser.refusal.Refusal.{Refusal}
-use Rattle.protobuf_parse_syntax.specs.declared.parser.refusal.Refusal.TheVariants.{Memory, Fault}
 
 -- a list behind which an item was put, if there was one
 pub pushed : {X Y : Type 0} (view : X → Y) (old new : List X) (item : Option X)
@@ -45,11 +45,8 @@ module _ {A B C : Type 0} {R : List Lexeme → A → Type 0} {s : Shape Class}
   pub fails : (front : List B) (ts rest : Rest Lexeme Place) (e : Refusal)
       (total : Read Lexeme Place C) → starts lexicon s.firsts ts ≡ true → Fails e rest (item.run ts)
       → total ≡ with_rest shown make front (run_many item ts) → Fails e rest total
-  fails front ts rest Memory total t h so_far = tt
-  fails front ts rest (Fault e) total t (inl h) so_far =
-      inl (ends_stuck item some shown law make front ts rest total t h.0 so_far, h.1)
-  fails front ts rest (Fault e) total t (inr h) so_far =
-      inr (h.0, fails_as front ts h.0 total t h.1 so_far, h.2)
+  fails front ts rest e total t h so_far =
+      fails_alike e rest (item.run ts) total (λ f is. fails_as front ts f total t is so_far) h
 
 -- what is there, and all that many parts are
 pub with_all : {A : Type 0} (r : Read Lexeme Place (List A))

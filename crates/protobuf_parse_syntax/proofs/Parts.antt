@@ -21,9 +21,10 @@ use Rattle.protobuf_parse_syntax.specs.Productions.{option_part, option_part_fir
 use Rattle.protobuf_parse_syntax.specs.Productions.{parts_up_to}
 use Rattle.protobuf_parse_syntax.specs.Code.{Failure, at, off, too_deep, failed, comes, begins_part}
 use Rattle.protobuf_parse_syntax.specs.Code.{Fails, TooMany, IsWrong, LongName, fails_first}
+use Rattle.protobuf_parse_syntax.specs.Code.{fails_alike}
 use Rattle.protobuf_parse_syntax.specs.Parsing.{HundredParts}
 use Rattle.protobuf_parse_syntax.specs.declared.parser.refusal.Refusal.{Refusal}
-use Rattle.protobuf_parse_syntax.specs.declared.parser.refusal.Refusal.TheVariants.{Memory, Fault}
+use Rattle.protobuf_parse_syntax.specs.declared.parser.refusal.Refusal.TheVariants.{Fault}
 use Rattle.protobuf_parse_syntax.proofs.Failures.{failed_as, never_failed}
 use Rattle.protobuf_parse_syntax.proofs.NeverWrong.{next_part_wrong}
 
@@ -116,11 +117,10 @@ dot_read (token t us) e = go (sees (symbol 46) t) refl e
 pub fails_at_dot : {X : Type 0} (ts after : Rest Lexeme Place) (e : Refusal)
     (r : Read Lexeme Place X) → dotted ts → Fails e after ((parse.symbol 46).run ts)
     → Fails e after r
-fails_at_dot ts after Memory r dot h = tt
-fails_at_dot ts after (Fault e) r dot (inl h) = let x = dot_read ts dot in
-    absurd (never_failed tt x.1 (at after) (sym x.4 ∙ h.0))
-fails_at_dot ts after (Fault e) r dot (inr h) = let x = dot_read ts dot in
-    absurd (never_failed tt x.1 h.0 (sym x.4 ∙ h.1))
+fails_at_dot ts after e r dot h =
+    let x = dot_read ts dot in
+    fails_alike e after ((parse.symbol 46).run ts) r
+    (λ f is. absurd (never_failed tt x.1 f (sym x.4 ∙ is))) h
 
 starts_comes : (cs : List Class) (ts : Rest Lexeme Place) → starts lexicon cs ts ≡ comes cs ts
 unfolding starts
@@ -273,9 +273,8 @@ named_as first deep f e = failed_as too_deep f e
 
 fails_named : (first : OptionPartSyntax) (e : Refusal) (after : Rest Lexeme Place) (r : ReadParts)
     → Fails e after (with_first first r) → Fails e after (named first r)
-fails_named first Memory after r h = tt
-fails_named first (Fault e) after r (inl h) = inl (named_as first r (at after) h.0, h.1)
-fails_named first (Fault e) after r (inr h) = inr (h.0, named_as first r h.0 h.1, h.2)
+fails_named first e after r h =
+    fails_alike e after (with_first first r) (named first r) (λ f is. named_as first r f is) h
 
 first_wrong : (first : OptionPartSyntax) (r : ReadParts) (after : Rest Lexeme Place)
     → with_first first r ≡ wrong after → r ≡ wrong after

@@ -31,8 +31,9 @@ use Rattle.protobuf_parse_syntax.specs.Productions.{str, piece, reserved_name, v
 use Rattle.protobuf_parse_syntax.specs.ClassLaws.{lexicon}
 use Rattle.protobuf_parse_syntax.specs.Code.{Failure, at, off, too_deep, failed, Fails, IsWrong}
 use Rattle.protobuf_parse_syntax.specs.Code.{Unsaid, of_text, of_version, of_path, refusal_of}
+use Rattle.protobuf_parse_syntax.specs.Code.{fails_alike}
 use Rattle.protobuf_parse_syntax.specs.declared.parser.refusal.Refusal.{Refusal}
-use Rattle.protobuf_parse_syntax.specs.declared.parser.refusal.Refusal.TheVariants.{Memory, Fault}
+use Rattle.protobuf_parse_syntax.specs.declared.parser.refusal.Refusal.TheVariants.{Fault}
 use Rattle.protobuf_parse_syntax.specs.declared.tree.Syntax.{Syntax}
 use Rattle.protobuf_parse_syntax.specs.declared.tree.Syntax.TheVariants.{Proto2, Proto3}
 use Rattle.protobuf_parse_syntax.proofs.Failures.{failed_as, never_failed}
@@ -166,11 +167,9 @@ module _ {B : Type 0} (M : Pieces → B → Type 0) (means : Pieces → Option B
       → Fails e after ((finding str M means to from).run ts)
       ⊎ IsWrong (Unsaid faults) ts e after ((finding str M means to from).run ts)
   unfolding reserved_name
-  fails_as_text faults among Memory ts after h = inl tt
-  fails_as_text faults among (Fault e) ts after (inl (inl h)) =
-      inl (inl (no_text-at ts (at after) (str.run ts) h.0, h.1))
-  fails_as_text faults among (Fault e) ts after (inl (inr h)) =
-      inl (inr (h.0, no_text-at ts h.0 (str.run ts) h.1, h.2))
+  fails_as_text faults among e ts after (inl h) =
+      inl (fails_alike e after (reserved_name.run ts) ((finding str M means to from).run ts)
+      (λ f is. no_text-at ts f (str.run ts) is) h)
   fails_as_text faults among e ts after (inr (x, here, w, (used, parts, told))) =
       inr (
         x,

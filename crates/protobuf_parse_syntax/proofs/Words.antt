@@ -1,6 +1,7 @@
 -- Tests of the next token by its word, where it is an identifier, and by its symbol, where it is
 -- none.
-use Rattle.std.proofs.Common.{◌≡◌, List, [], ◌∷◌, Option, Some, None, Bool, true, false, ◌||◌, cond}
+use Rattle.std.proofs.Common.{◌≡◌, List, [], ◌∷◌, ◌++◌, Option, Some, None, Bool, true, false}
+use Rattle.std.proofs.Common.{◌||◌, cond}
 use Rattle.std.proofs.Common.{is_some, bytes_eq, refl, sym, ap, ◌∙◌}
 use Rattle.protobuf_parse_grammar.specs.Readers.{Rest, end, token, read, starts}
 use Rattle.protobuf_parse_grammar.specs.Relations.{seen}
@@ -15,8 +16,10 @@ use Rattle.protobuf_parse_lexer.specs.declared.lexer.token.TokenKind.{TokenKind}
 use Rattle.protobuf_parse_lexer.specs.declared.lexer.token.TokenKind.TheVariants as kind
 use Rattle.protobuf_parse_syntax.specs.ClassLaws.{lexicon}
 use Rattle.protobuf_parse_syntax.specs.Grammar.{any_ident, lookup, table_words, word_of}
+use Rattle.protobuf_parse_syntax.specs.Grammar.{labels, statement_words}
+use Rattle.protobuf_parse_syntax.specs.Parsing.{IsUnlabelled}
 use Rattle.protobuf_parse_syntax.specs.Productions.{one_of}
-use Rattle.protobuf_parse_syntax.specs.Code.{next_ident}
+use Rattle.protobuf_parse_syntax.specs.Code.{next_ident, Comes}
 use Rattle.protobuf_parse_syntax.specs.Words.{takes, behind_next, Finds}
 
 ident_seen : (cs : List Class) (w : Bytes) (at : Place)
@@ -141,6 +144,18 @@ finds_word table ts w x e f = (
       ∙ among_takes table w (Some x) f,
   reads_word table ts w x e f,
 )
+
+-- a dot is the first token of what has no label
+pub dot_unlabelled : (ts : Rest Lexeme Place) → starts lexicon (symbol 46 ∷ []) ts ≡ true
+    → Comes IsUnlabelled ts
+unfolding starts
+dot_unlabelled (end m) h = absurd cc
+dot_unlabelled (token t rest) h = go (sees (symbol 46) t) h
+  where
+    go : (b : Bool) → (b || false) ≡ true
+        → (b || (sees (ident (table_words labels ++ statement_words)) t || false)) ≡ true
+    go true h = refl
+    go false h = absurd cc
 
 pub semicolon_or : (cs : List Class) (ts : Rest Lexeme Place)
     → starts lexicon (symbol 59 ∷ cs) ts

@@ -14,6 +14,9 @@ use Rattle.protobuf_parse_syntax.specs.Code.{Wrongs, Behind, Says, IsWrong}
 use Rattle.protobuf_parse_syntax.specs.Code.{off, too_deep, failed, Fails, fails_first}
 use Rattle.protobuf_parse_syntax.specs.declared.parser.refusal.Refusal.{Refusal}
 use Rattle.protobuf_parse_syntax.specs.declared.parser.refusal.Refusal.TheVariants.{Memory, Fault}
+use Rattle.protobuf_parse_syntax.specs.declared.parser.refusal.Refusal.TheVariants.{NoField}
+use Rattle.protobuf_parse_syntax.specs.declared.parser.refusal.Refusal.TheVariants.{NoGroupField}
+use Rattle.protobuf_parse_syntax.specs.declared.parser.refusal.Refusal.TheVariants.{NoOneofField}
 
 -- ---- more tokens before
 
@@ -102,6 +105,9 @@ module _ {Y : Type 0} {R : List Lexeme → Y → Type 0} {s : Shape Class}
           says_behind e l.0 h.0 after h.2,
         ),
       )
+  fails_from_first NoField ts after h = ap (wrong_from ts) h
+  fails_from_first NoGroupField ts after h = ap (wrong_from ts) h
+  fails_from_first NoOneofField ts after h = ap (wrong_from ts) h
 
   -- or with what is wrong in it
   pub fails_in : (P : Wrongs) (e : Refusal) (ts after : Rest Lexeme Place)

@@ -1,7 +1,7 @@
 -- No public clause rests on this file.
 -- What the parser's functions say of readers.
 use Rattle.std.specs.Prelude.{◌≡◌, ◌⊎◌, ℕ, Bool, true, false, Option, Some, None, List, [], ◌∷◌}
-use Rattle.std.specs.Prelude.{◌++◌, Result, Ok, Err}
+use Rattle.std.specs.Prelude.{◌++◌, Result, Ok, Err, codes}
 use Rattle.std.specs.Option.{option_to_list}
 use Rattle.std.proofs.Common.{ap, ◌∙◌, refl, inl, inr}
 use Rattle.protobuf_parse_base.specs.Characters as char
@@ -26,11 +26,18 @@ use Rattle.protobuf_parse_syntax.specs.Trees.{Pieces, OptionSyntax}
 use Rattle.protobuf_parse_syntax.specs.Grammar.{any_ident, IsComma}
 use Rattle.protobuf_parse_syntax.specs.Parsing.{IsLarge, SaysNothing, HundredParts, OptionHead}
 use Rattle.protobuf_parse_syntax.specs.Parsing.{ImportHead, SyntaxHead, ReservedHead, IsEarlier}
-use Rattle.protobuf_parse_syntax.specs.Parsing.{ListFront, IsGrammarFault}
+use Rattle.protobuf_parse_syntax.specs.Parsing.{ListFront, IsGrammarFault, BeginsNoConstant}
+use Rattle.protobuf_parse_syntax.specs.Parsing.{IsLabelWord, IsUnlabelled, IsLowName, IsTheWord}
+use Rattle.protobuf_parse_syntax.specs.Parsing.{IsOtherStatement}
 use Rattle.protobuf_parse_syntax.specs.Productions as parse
 use Rattle.protobuf_parse_syntax.specs.declared.tree.ImportVis.{ImportVis}
+use Rattle.protobuf_parse_syntax.specs.declared.tree.Syntax.{Syntax}
+use Rattle.protobuf_parse_syntax.specs.declared.tree.Syntax.TheVariants.{Proto2}
 use Rattle.protobuf_parse_syntax.specs.declared.parser.refusal.Refusal.{Refusal}
 use Rattle.protobuf_parse_syntax.specs.declared.parser.refusal.Refusal.TheVariants.{Memory, Fault}
+use Rattle.protobuf_parse_syntax.specs.declared.parser.refusal.Refusal.TheVariants.{NoField}
+use Rattle.protobuf_parse_syntax.specs.declared.parser.refusal.Refusal.TheVariants.{NoGroupField}
+use Rattle.protobuf_parse_syntax.specs.declared.parser.refusal.Refusal.TheVariants.{NoOneofField}
 use Rattle.protobuf_parse_syntax.specs.declared.parser.cursor.Cursor.{Cursor}
 
 -- the tokens that are left, and the place of the end
@@ -61,10 +68,10 @@ abbrev pub comes : List Class → Rest Lexeme Place → Bool
 comes cs (end m) = false
 comes cs (token t rest) = is_one_of cs t
 
--- an integer of over 2147483647 comes next
-abbrev pub IsLargeNext : Rest Lexeme Place → Type 0
-IsLargeNext (end m) = ⊥
-IsLargeNext (token t rest) = IsLarge t.kind
+-- such a token comes next
+abbrev pub Comes : (Lexeme → Type 0) → Rest Lexeme Place → Type 0
+Comes P (end m) = ⊥
+Comes P (token t rest) = P t
 
 -- a float, `inf` or `nan` comes second
 abbrev pub floats_second : Rest Lexeme Place → Bool
@@ -95,28 +102,20 @@ begins_part after = comes (ident [] ∷ symbol char.open_paren ∷ []) after
 -- what a fault at the next token says of it
 abbrev pub Stands : ParserError → Rest Lexeme Place → Type 0
 Stands error.IncorrectInput after = Unit {0}
-Stands error.ExpectConstant after = Unit {0}
-Stands error.LabelNotAllowed after = Unit {0}
-Stands error.LabelRequired after = Unit {0}
-Stands error.GroupNameShouldStartWithUpperCase after = Unit {0}
-Stands error.MapFieldNotAllowed after = Unit {0}
-Stands error.OneOfInGroup after = Unit {0}
-Stands error.OnlyFieldsInGroup after = Unit {0}
-Stands error.IntegerOverflow after = IsLargeNext after
+Stands error.ExpectConstant after = Comes BeginsNoConstant after
+Stands error.GroupNameShouldStartWithUpperCase after = Comes IsLowName after
+Stands error.IntegerOverflow after = Comes IsLarge after
 Stands error.FloatConstant after = comes (float ∷ []) after ≡ true
 Stands _ after = ⊥
 
--- faults that are told at a token alone, whatever it is
-abbrev pub AtOneToken : ParserError → Type 0
-AtOneToken error.IncorrectInput = Unit {0}
-AtOneToken error.ExpectConstant = Unit {0}
-AtOneToken error.LabelNotAllowed = Unit {0}
-AtOneToken error.LabelRequired = Unit {0}
-AtOneToken error.GroupNameShouldStartWithUpperCase = Unit {0}
-AtOneToken error.MapFieldNotAllowed = Unit {0}
-AtOneToken error.OneOfInGroup = Unit {0}
-AtOneToken error.OnlyFieldsInGroup = Unit {0}
-AtOneToken _ = ⊥
+-- The next token is refused, whatever it is.
+abbrev pub IsNextRefused : Refusal → Type 0
+IsNextRefused Memory = ⊥
+IsNextRefused (Fault error.IncorrectInput) = Unit {0}
+IsNextRefused (Fault _) = ⊥
+IsNextRefused NoField = Unit {0}
+IsNextRefused NoGroupField = Unit {0}
+IsNextRefused NoOneofField = Unit {0}
 
 -- ---- a fault in a part
 
@@ -203,6 +202,9 @@ Fails Memory after r = Unit {0}
 Fails (Fault e) after r =
     ((r ≡ stuck after) × Stands e after)
     ⊎ ((f : Failure) × (r ≡ failed f) × Tells e after f)
+Fails NoField after r = r ≡ stuck after
+Fails NoGroupField after r = r ≡ stuck after
+Fails NoOneofField after r = r ≡ stuck after
 
 -- What a function returned, seen by view, is what was read, and the cursor stands behind it or at
 -- the fault, unless memory ran out.
@@ -259,6 +261,17 @@ refusal_of decoding.NotUtf8 = Fault error.StrLitDecode
 
 -- ---- what fails first fails
 
+-- what has each of the failures of another part fails as that does
+pub fails_alike : {Y Z : Type 0} (e : Refusal) (after : Rest Lexeme Place) (r : Read Lexeme Place Y)
+    (q : Read Lexeme Place Z) → ((f : Failure) → r ≡ failed f → q ≡ failed f) → Fails e after r
+    → Fails e after q
+fails_alike Memory after r q same h = tt
+fails_alike (Fault e) after r q same (inl h) = inl (same (at after) h.0, h.1)
+fails_alike (Fault e) after r q same (inr h) = inr (h.0, same h.0 h.1, h.2)
+fails_alike NoField after r q same h = same (at after) h
+fails_alike NoGroupField after r q same h = same (at after) h
+fails_alike NoOneofField after r q same h = same (at after) h
+
 failed_bind : {Y Z : Type 0} (f : Failure) (g : Y → Rest Lexeme Place → Read Lexeme Place Z)
     → bind (failed f) g ≡ failed f
 failed_bind (at rest) g = refl
@@ -267,23 +280,53 @@ failed_bind too_deep g = refl
 
 pub fails_first : {Y Z : Type 0} (e : Refusal) (after : Rest Lexeme Place) (r : Read Lexeme Place Y)
     (g : Y → Rest Lexeme Place → Read Lexeme Place Z) → Fails e after r → Fails e after (bind r g)
-fails_first Memory after r g h = tt
-fails_first {Y = Y} (Fault e) after r g (inl h) =
-    inl (ap (λ (x : Read Lexeme Place Y). bind x g) h.0, h.1)
-fails_first {Y = Y} (Fault e) after r g (inr h) =
-    inr (h.0, ap (λ (x : Read Lexeme Place Y). bind x g) h.1 ∙ failed_bind h.0 g, h.2)
+fails_first {Y = Y} e after r g =
+    fails_alike e after r (bind r g)
+    (λ f is. ap (λ (x : Read Lexeme Place Y). bind x g) is ∙ failed_bind f g)
 
 -- ---- the file
+
+-- What a fault says of the next token, with which no statement of a body begins, in a file of this
+-- version.
+abbrev pub Unfit : Syntax → ParserError → Rest Lexeme Place → Type 0
+Unfit syntax error.IncorrectInput after = Unit {0}
+Unfit syntax error.LabelNotAllowed after = Comes IsLabelWord after
+Unfit syntax error.LabelRequired after = (syntax ≡ Proto2) × Comes IsUnlabelled after
+Unfit syntax error.MapFieldNotAllowed after = Comes (IsTheWord (codes "map")) after
+Unfit syntax error.OneOfInGroup after = Comes (IsTheWord (codes "oneof")) after
+Unfit syntax error.OnlyFieldsInGroup after = Comes IsOtherStatement after
+Unfit syntax _ after = ⊥
+
+-- in a file of either version
+abbrev pub UnfitInBoth : ParserError → Rest Lexeme Place → Type 0
+UnfitInBoth e after = (syntax : Syntax) → Unfit syntax e after
+
+-- the fault of a refusal where these tokens are left, in a file of this version
+abbrev pub ToldAs : Syntax → Refusal → Rest Lexeme Place → Refusal → Type 0
+ToldAs syntax Memory after told = told ≡ Memory
+ToldAs syntax (Fault e) after told = told ≡ Fault e
+ToldAs syntax _ after told = (e : ParserError) × (told ≡ Fault e) × Unfit syntax e after
+
+-- A file is refused in two ways more: its version is none, or the next token begins no statement of
+-- a body, in its version.
+abbrev pub FileFails : Rest Lexeme Place → {Y : Type 0} → Refusal → Rest Lexeme Place
+    → Read Lexeme Place Y → Type 0
+FileFails before e after r = IsWrong NoVersion before e after r
+    ⊎ ((x : ParserError) × (e ≡ Fault x) × (r ≡ stuck after)
+    × ((syntax : Syntax) × (us : Rest Lexeme Place)
+    × (parse.version_statement.run before ≡ read syntax us) × Unfit syntax x after))
 
 -- what a refusal says of the tokens, where the next one, or the end, stands at `next`
 abbrev pub RefusesFile : List Lexeme → Place → Refusal → Place → Type 0
 RefusesFile ts last Memory next = Unit {0}
 RefusesFile ts last (Fault e) next = IsGrammarFault ts last e next
+RefusesFile ts last _ next = IsGrammarFault ts last error.IncorrectInput next
 
 -- the error of a refusal, where the next token stands at this place
 abbrev pub error_at : Refusal → Place → ParserErrorWithLocation
 error_at Memory next = out_of_memory
 error_at (Fault e) next = located_at e next
+error_at _ next = located_at error.IncorrectInput next
 
 -- the error says of these tokens what cannot stand there
 abbrev pub IsFaultOfTokens : Stream → ParserErrorWithLocation → Type 0

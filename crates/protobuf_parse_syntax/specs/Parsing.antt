@@ -1,6 +1,6 @@
 -- What is promised of a file's tokens, and of its text.
-use Rattle.std.specs.Prelude.{◌≡◌, ◌<◌, ◌⊎◌, ℕ, List, [], ◌∷◌, ◌++◌, length, Some, true}
-use Rattle.std.specs.Prelude.{codes}
+use Rattle.std.specs.Prelude.{◌≡◌, ◌<◌, ◌⊎◌, ℕ, List, [], ◌∷◌, ◌++◌, length, Some, None, true}
+use Rattle.std.specs.Prelude.{false, codes}
 use Rattle.std.specs.Prelude.{Result, MatchResult}
 use Rattle.protobuf_parse_base.specs.Paths.{path_fault}
 use Rattle.protobuf_parse_grammar.specs.Relations.{Rel, Many, Nothing, BeginsOtherwise, StopsAt}
@@ -9,8 +9,8 @@ use Rattle.protobuf_parse_lexer.specs.Text.{Bytes}
 use Rattle.protobuf_parse_base.specs.Characters as char
 use Rattle.protobuf_parse_lexer.specs.Tokens.{Lexeme}
 use Rattle.protobuf_parse_lexer.specs.Cut.{Stream, HasTokens, IsRefused, out_of_memory, located}
-use Rattle.protobuf_parse_lexer.specs.Classes.{symbol, ident, float, text as string_token}
-use Rattle.protobuf_parse_lexer.specs.Classes.{is_one_of, is_floating}
+use Rattle.protobuf_parse_lexer.specs.Classes.{symbol, word, words, ident, float}
+use Rattle.protobuf_parse_lexer.specs.Classes.{text as string_token, is_one_of, is_floating}
 use Rattle.protobuf_parse_lexer.specs.Tokens.{StandsFor}
 use Rattle.protobuf_parse_lexer.specs.declared.error.ParserError.{ParserError}
 use Rattle.protobuf_parse_lexer.specs.declared.error.ParserError.TheVariants as error
@@ -22,8 +22,11 @@ use Rattle.protobuf_parse_syntax.specs.Trees.{Pieces, OptionPartSyntax, OptionSy
 use Rattle.protobuf_parse_syntax.specs.Grammar.{IsWord, IsSymbol, IsComma, IsOptionPart, IsNextPart}
 use Rattle.protobuf_parse_syntax.specs.Grammar.{IsAssignment, IsEnumNumber, IsVisibility}
 use Rattle.protobuf_parse_syntax.specs.Grammar.{IsReservedName, IsStr, IsFile, name_of, place_of}
+use Rattle.protobuf_parse_syntax.specs.Grammar.{other_constants, labels, table_words, IsSyntax}
+use Rattle.protobuf_parse_syntax.specs.Grammar.{statement_words, capital_ident}
 use Rattle.protobuf_parse_syntax.specs.declared.tree.ImportVis.{ImportVis}
 use Rattle.protobuf_parse_syntax.specs.declared.tree.Syntax.{Syntax}
+use Rattle.protobuf_parse_syntax.specs.declared.tree.Syntax.TheVariants.{Proto3}
 
 -- ---- tokens without a tree
 
@@ -41,14 +44,50 @@ pub record StandsAt (P : List Lexeme → Lexeme → List Lexeme → Type 0)
   pub at : place ≡ token.place
   pub is : P front token back
 
--- an integer of over 2147483647
-abbrev pub IsLarge : TokenKind → Type 0
-IsLarge (kind.Integer n) = 2147483647 < n
-IsLarge _ = ⊥
+-- such a token at the place
+abbrev pub TokenAt : (Lexeme → Type 0) → List Lexeme → Place → Type 0
+TokenAt P = StandsAt (λ front t back. P t)
 
--- the token is one
-abbrev pub LargeToken : List Lexeme → Lexeme → List Lexeme → Type 0
-LargeToken front t back = IsLarge t.kind
+-- an integer of over 2147483647
+abbrev pub IsLargeKind : TokenKind → Type 0
+IsLargeKind (kind.Integer n) = 2147483647 < n
+IsLargeKind _ = ⊥
+
+-- a token that is one
+abbrev pub IsLarge : Lexeme → Type 0
+IsLarge t = IsLargeKind t.kind
+
+-- a token with which no constant begins, and which is no float
+abbrev pub BeginsNoConstant : Lexeme → Type 0
+BeginsNoConstant t = is_one_of (float ∷ symbol char.open_brace ∷ other_constants) t ≡ false
+
+-- a label's word
+abbrev pub IsLabelWord : Lexeme → Type 0
+IsLabelWord t = is_one_of (words (table_words labels)) t ≡ true
+
+-- a dot, or an identifier that is neither a label's word nor one with which another statement
+-- begins
+abbrev pub IsUnlabelled : Lexeme → Type 0
+IsUnlabelled t =
+    is_one_of (symbol char.dot ∷ ident (table_words labels ++ statement_words) ∷ []) t ≡ true
+
+-- an identifier that does not begin with an ASCII capital
+abbrev pub IsLowName : Lexeme → Type 0
+IsLowName t = (is_one_of (ident [] ∷ []) t ≡ true) × (capital_ident t ≡ None)
+
+-- this word
+abbrev pub IsTheWord : Bytes → Lexeme → Type 0
+IsTheWord w t = is_one_of (word w ∷ []) t ≡ true
+
+-- a word with which a statement begins that is neither a field nor a oneof
+abbrev pub IsOtherStatement : Lexeme → Type 0
+IsOtherStatement t = (is_one_of (words statement_words) t ≡ true)
+    × (is_one_of (word (codes "oneof") ∷ []) t ≡ false)
+
+-- The file does not begin with a `syntax` statement that says proto3.
+abbrev pub NotProto3 : List Lexeme → Type 0
+NotProto3 ts = (front : List Lexeme) (back : List Lexeme) → ts ≡ front ++ back
+    → IsSyntax front Proto3 → ⊥
 
 -- a hundred parts of an option's name, each but the first behind a dot, and one more dot
 pub record HundredParts (ts : List Lexeme) : Type 0 where
@@ -159,20 +198,26 @@ pub record WrongStrings (e : ParserError)
 -- What a fault of the grammar at a place says of the tokens, which end at `last`.
 --
 -- S5, S8, S9, S11 to S14, S16, S17: no list of tokens that begins with those up to and with the one
--- at the place has a tree, or none has that ends there; at S5 that token is an integer that is too
--- large. S7, S10, S15, S18, S19: there is no tree, and the token of the fault stands at the place.
+-- at the place has a tree, or none has that ends there; but for S8, the token of the fault stands
+-- there. S7, S10, S15, S18, S19: there is no tree, and the token of the fault stands at the place.
 abbrev pub IsGrammarFault : List Lexeme → Place → ParserError → Place → Type 0
 IsGrammarFault ts last error.IncorrectInput place = StopsAt place_of IsFile ts last place
-IsGrammarFault ts last error.ExpectConstant place = StopsAt place_of IsFile ts last place
-IsGrammarFault ts last error.LabelNotAllowed place = StopsAt place_of IsFile ts last place
-IsGrammarFault ts last error.LabelRequired place = StopsAt place_of IsFile ts last place
+IsGrammarFault ts last error.ExpectConstant place =
+    StopsAt place_of IsFile ts last place × TokenAt BeginsNoConstant ts place
+IsGrammarFault ts last error.LabelNotAllowed place =
+    StopsAt place_of IsFile ts last place × TokenAt IsLabelWord ts place
+IsGrammarFault ts last error.LabelRequired place =
+    StopsAt place_of IsFile ts last place × TokenAt IsUnlabelled ts place × NotProto3 ts
 IsGrammarFault ts last error.GroupNameShouldStartWithUpperCase place =
-    StopsAt place_of IsFile ts last place
-IsGrammarFault ts last error.MapFieldNotAllowed place = StopsAt place_of IsFile ts last place
-IsGrammarFault ts last error.OneOfInGroup place = StopsAt place_of IsFile ts last place
-IsGrammarFault ts last error.OnlyFieldsInGroup place = StopsAt place_of IsFile ts last place
+    StopsAt place_of IsFile ts last place × TokenAt IsLowName ts place
+IsGrammarFault ts last error.MapFieldNotAllowed place =
+    StopsAt place_of IsFile ts last place × TokenAt (IsTheWord (codes "map")) ts place
+IsGrammarFault ts last error.OneOfInGroup place =
+    StopsAt place_of IsFile ts last place × TokenAt (IsTheWord (codes "oneof")) ts place
+IsGrammarFault ts last error.OnlyFieldsInGroup place =
+    StopsAt place_of IsFile ts last place × TokenAt IsOtherStatement ts place
 IsGrammarFault ts last error.IntegerOverflow place =
-    StopsAt place_of IsFile ts last place × StandsAt LargeToken ts place
+    StopsAt place_of IsFile ts last place × TokenAt IsLarge ts place
 IsGrammarFault ts last error.OptionNameTooLong place = NoTree ts × StandsAt NextPart ts place
 IsGrammarFault ts last error.FloatConstant place = NoTree ts × StandsAt Floats ts place
 IsGrammarFault ts last error.UnknownSyntax place =

@@ -1,6 +1,6 @@
 //! Constants.
 
-ghost use Rattle.std.specs.Prelude.{◌≡◌, ◌≤◌, ◌∷◌, [], map, string_bytes, pos};
+ghost use Rattle.std.specs.Prelude.{◌≡◌, ◌≤◌, ◌∷◌, [], map, string_bytes, pos, false};
 ghost use Rattle.protobuf_parse_base.specs.Characters as char;
 ghost use Rattle.protobuf_parse_grammar.specs.Readers.{starts};
 ghost use Rattle.protobuf_parse_grammar.specs.Pairs.{both};
@@ -39,7 +39,7 @@ pub fn constant(
 
 /// `constant = msgconst | list | "true" | "false" | [ "+" | "-" ] int | str | ident { "." ident }`
 #[cycle(constant)]
-#[tactic(auto, unfolding(crate::specs::Nested::constant_of, crate::specs::Productions::integer_constant), using(crate::specs::Code::fails_first, crate::proofs::Views::views_text, crate::proofs::Constants::str_absent))]
+#[tactic(auto, unfolding(crate::specs::Nested::constant_of, crate::specs::Productions::integer_constant), using(crate::specs::Code::fails_first, crate::proofs::Views::views_text, crate::proofs::Constants::str_absent, crate::proofs::Constants::none_begins))]
 fn constant_of(
     alloc: Global,
     tokens: &mut Cursor<'_>,
@@ -67,8 +67,9 @@ fn constant_of(
 }
 
 /// Why no constant begins with the next token.
-#[tactic(auto, using(crate::proofs::Constants::float_stands))]
+#[tactic(auto, using(crate::proofs::Constants::float_stands, crate::proofs::Constants::begins_none))]
 fn constant_fault(tokens: &Cursor<'_>) -> ParserError
+    requires { starts lexicon nest.constant_firsts (left tokens.now) ≡ false }
     ensures { Stands result (left tokens.now) }
 {
     if tokens.sees_float() {

@@ -12,7 +12,7 @@ ghost use Rattle.protobuf_parse_lexer.specs.Text.{seen_by};
 ghost use Rattle.protobuf_parse_syntax.specs.ClassLaws.{lexicon};
 ghost use Rattle.protobuf_parse_syntax.specs.Grammar.{place_of};
 ghost use Rattle.protobuf_parse_syntax.specs.Productions as read;
-ghost use Rattle.protobuf_parse_syntax.specs.Code.{left, Gives, AtOneToken, is_end};
+ghost use Rattle.protobuf_parse_syntax.specs.Code.{left, Gives, IsNextRefused, is_end};
 ghost use Rattle.protobuf_parse_syntax.specs.Code.{next_ident, floats_second};
 ghost use Rattle.protobuf_parse_syntax.specs.Words.{behind_next};
 
@@ -75,12 +75,12 @@ impl<'text> Cursor<'text> {
         ensures { Gives (λ u. tt) result (left self.new)
             ((read.symbol symbol).run (left self.old)) }
     {
-        self.symbol_or(symbol, ParserError::IncorrectInput)
+        self.symbol_or(symbol, Refusal::Fault(ParserError::IncorrectInput))
     }
 
-    /// Reads this symbol. The fault at any other token.
-    pub fn symbol_or(&mut self, symbol: char, fault: ParserError) -> Result<(), Refusal>
-        requires { AtOneToken fault }
+    /// Reads this symbol. The refusal at any other token.
+    pub fn symbol_or(&mut self, symbol: char, refusal: Refusal) -> Result<(), Refusal>
+        requires { IsNextRefused refusal }
         ensures { Gives (λ u. tt) result (left self.new)
             ((read.symbol symbol).run (left self.old)) }
     {
@@ -90,7 +90,7 @@ impl<'text> Cursor<'text> {
                 self.advance();
                 Ok(())
             }
-            _ => Err(Refusal::Fault(fault)),
+            _ => Err(refusal),
         }
     }
 

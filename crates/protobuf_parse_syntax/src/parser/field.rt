@@ -24,8 +24,7 @@ use crate::parser::name::name;
 use crate::parser::option::options;
 use crate::parser::refusal::Refusal;
 use crate::parser::words::{
-    begins_field, begins_field_item, begins_no_oneof_field, extend_fault, field_fault, group_fault,
-    label_of, oneof_fault, scalar_of,
+    begins_field, begins_field_item, begins_no_oneof_field, label_of, scalar_of,
 };
 use crate::tree::{Field, FieldStatement, Group, Label, Scalar, Syntax, Type};
 use protobuf_parse_lexer::{ParserError, Place};
@@ -69,7 +68,7 @@ fn field_of(
         ((field_in syntax inner).run (left tokens.old)) }
 {
     if !begins_field(tokens, syntax) {
-        return Err(Refusal::Fault(field_fault(tokens, syntax)));
+        return Err(Refusal::NoField);
     }
     let place = tokens.place();
     let label = label(tokens, syntax);
@@ -107,7 +106,7 @@ pub fn oneof_field(
         ((nest.oneof_field syntax levels).low.run (left tokens.old)) }
 {
     if begins_no_oneof_field(tokens) {
-        return Err(Refusal::Fault(oneof_fault(tokens)));
+        return Err(Refusal::NoOneofField);
     }
     let place = tokens.place();
     after_label(alloc, tokens, syntax, levels, levels, place, None)
@@ -181,8 +180,7 @@ fn group_body(
 {
     tokens.symbol('{')?;
     let fields = field_statements(alloc, tokens, syntax, levels)?;
-    let fault = group_fault(tokens, syntax);
-    tokens.symbol_or('}', fault)?;
+    tokens.symbol_or('}', Refusal::NoGroupField)?;
     Ok(fields)
 }
 
@@ -199,8 +197,7 @@ pub fn extend_body(
 {
     tokens.symbol('{')?;
     let fields = field_statements(alloc, tokens, syntax, levels)?;
-    let fault = extend_fault(tokens, syntax);
-    tokens.symbol_or('}', fault)?;
+    tokens.symbol_or('}', Refusal::NoField)?;
     Ok(fields)
 }
 

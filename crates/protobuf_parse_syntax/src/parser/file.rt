@@ -6,7 +6,8 @@ ghost use Rattle.protobuf_parse_lexer.specs.Text.{seen_by};
 ghost use Rattle.protobuf_parse_syntax.specs.Productions as read;
 ghost use Rattle.protobuf_parse_syntax.specs.Trees as view;
 ghost use Rattle.protobuf_parse_syntax.specs.Code.{left, Gives, GivesOr, IsWrong, Unsaid};
-ghost use Rattle.protobuf_parse_syntax.specs.Code.{NoVersion, of_version, of_path};
+ghost use Rattle.protobuf_parse_syntax.specs.Code.{NoVersion, of_version, of_path, FileFails};
+ghost use Rattle.protobuf_parse_syntax.specs.Code.{ToldAs};
 ghost use Rattle.protobuf_parse_syntax.specs.Nested as nest;
 
 use crate::parser::cursor::Cursor;
@@ -17,7 +18,7 @@ use crate::parser::name::{dotted, text};
 use crate::parser::option::option;
 use crate::parser::refusal::Refusal;
 use crate::parser::service::service;
-use crate::parser::words::begins_file_statement;
+use crate::parser::words::{begins_file_statement, field_fault, group_fault, oneof_fault};
 use crate::tree::{FileStatement, FileTree, Import, ImportVis, Package, Syntax};
 use protobuf_parse_base::proto_path::ProtoPathBuf;
 use protobuf_parse_lexer::ParserError;
@@ -27,12 +28,26 @@ use std::alloc::Global;
 /// Tokens may be left behind it.
 #[tactic(auto, unfolding(crate::specs::Nested::file), using(crate::specs::Code::fails_first))]
 pub fn file(alloc: Global, tokens: &mut Cursor<'_>, levels: usize) -> Result<FileTree, Refusal>
-    ensures { GivesOr (IsWrong NoVersion (left tokens.old)) view.file_syntax result (left tokens.new)
+    ensures { GivesOr (FileFails (left tokens.old)) view.file_syntax result (left tokens.new)
         ((nest.files levels).low.run (left tokens.old)) }
 {
     let syntax = version(alloc, tokens)?;
-    let statements = file_statements(alloc, tokens, syntax, levels)?;
-    Ok(FileTree { syntax, statements })
+    match file_statements(alloc, tokens, syntax, levels) {
+        Ok(statements) => Ok(FileTree { syntax, statements }),
+        Err(refusal) => Err(told(refusal, tokens, syntax)),
+    }
+}
+
+/// The refusal with its fault, where no field begins with the next token in a file of this version.
+fn told(refusal: Refusal, tokens: &Cursor<'_>, syntax: Syntax) -> Refusal
+    ensures { ToldAs syntax refusal (left tokens.now) result }
+{
+    match refusal {
+        Refusal::Memory | Refusal::Fault(_) => refusal,
+        Refusal::NoField => Refusal::Fault(field_fault(tokens, syntax)),
+        Refusal::NoGroupField => Refusal::Fault(group_fault(tokens, syntax)),
+        Refusal::NoOneofField => Refusal::Fault(oneof_fault(tokens)),
+    }
 }
 
 /// `[ "syntax" "=" str ";" ]`; proto2 where it is absent.

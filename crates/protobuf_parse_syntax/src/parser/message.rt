@@ -14,9 +14,7 @@ use crate::parser::list::push_some;
 use crate::parser::name::name;
 use crate::parser::option::option;
 use crate::parser::refusal::Refusal;
-use crate::parser::words::{
-    begins_message_statement, begins_oneof_statement, field_fault, oneof_fault, sees_statement_word,
-};
+use crate::parser::words::{begins_message_statement, begins_oneof_statement, sees_statement_word};
 use crate::tree::{Extend, Message, MessageStatement, OneOf, OneOfStatement, Syntax};
 use protobuf_parse_lexer::ParserError;
 use std::alloc::Global;
@@ -57,8 +55,7 @@ fn message_of(
     let name = tokens.ident_name(alloc)?;
     tokens.symbol('{')?;
     let body = message_statements(alloc, tokens, syntax, levels)?;
-    let fault = field_fault(tokens, syntax);
-    tokens.symbol_or('}', fault)?;
+    tokens.symbol_or('}', Refusal::NoField)?;
     Ok(Message { place, name, body })
 }
 
@@ -190,8 +187,7 @@ fn oneof(
     let name = tokens.ident_name(alloc)?;
     tokens.symbol('{')?;
     let body = oneof_statements(alloc, tokens, syntax, levels)?;
-    let fault = oneof_fault(tokens);
-    tokens.symbol_or('}', fault)?;
+    tokens.symbol_or('}', Refusal::NoOneofField)?;
     Ok(OneOf { place, name, body })
 }
 

@@ -13,6 +13,13 @@ pub enum Refusal {
     /// What stands next, a token or the end of the text, cannot stand there, or the part that
     /// begins there has this fault.
     Fault(ParserError),
+    /// No statement of a message and no field of an `extend` begins with what stands next. With
+    /// which fault depends on the version, and is told once for the whole file, as of the next two.
+    NoField,
+    /// No field of a group does.
+    NoGroupField,
+    /// No statement of a oneof does.
+    NoOneofField,
 }
 
 impl From<AllocError> for Refusal {
@@ -38,13 +45,17 @@ impl Refusal {
     pub fn located(self, next: Place) -> ParserErrorWithLocation
         ensures { result ≡ error_at self next }
     {
-        match self {
-            Refusal::Memory => AllocError.into(),
-            Refusal::Fault(error) => ParserErrorWithLocation {
-                error,
-                line: next.line,
-                col: next.col,
-            },
+        let error = match self {
+            Refusal::Memory => return AllocError.into(),
+            Refusal::Fault(error) => error,
+            Refusal::NoField | Refusal::NoGroupField | Refusal::NoOneofField => {
+                ParserError::IncorrectInput
+            }
+        };
+        ParserErrorWithLocation {
+            error,
+            line: next.line,
+            col: next.col,
         }
     }
 }

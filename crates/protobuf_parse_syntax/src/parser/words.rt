@@ -11,7 +11,7 @@ ghost use Rattle.protobuf_parse_syntax.specs.ClassLaws.{lexicon};
 ghost use Rattle.protobuf_parse_syntax.specs.Words.{takes};
 ghost use Rattle.protobuf_parse_syntax.specs.Fields.{labels_in};
 ghost use Rattle.protobuf_parse_syntax.specs.Grammar as grammar;
-ghost use Rattle.protobuf_parse_syntax.specs.Code.{left, AtOneToken};
+ghost use Rattle.protobuf_parse_syntax.specs.Code.{left, Unfit, UnfitInBoth};
 ghost use Rattle.protobuf_parse_syntax.specs.Nested as nest;
 
 use crate::parser::cursor::Cursor;
@@ -267,10 +267,10 @@ pub fn begins_file_statement(tokens: &Cursor<'_>) -> bool
     }
 }
 
-/// Why no field begins with the next token: S11 at a label that is not allowed, S12 where a label
-/// lacks, else S8.
+/// Why no statement of a message and no field of an `extend` begins with the next token: S11 at a
+/// label that is not allowed, S12 where a label lacks, else S8.
 pub fn field_fault(tokens: &Cursor<'_>, syntax: Syntax) -> ParserError
-    ensures { AtOneToken result }
+    ensures { Unfit syntax result (left tokens.now) }
 {
     match tokens.next_word() {
         Some(word) => match syntax {
@@ -287,17 +287,10 @@ pub fn field_fault(tokens: &Cursor<'_>, syntax: Syntax) -> ParserError
     }
 }
 
-/// Why no statement of an `extend` begins with the next token.
-pub fn extend_fault(tokens: &Cursor<'_>, syntax: Syntax) -> ParserError
-    ensures { AtOneToken result }
-{
-    field_fault(tokens, syntax)
-}
-
 /// Why no statement of a group begins with the next token: S16 at `oneof`, S17 at the word of
 /// another statement, else as for a field.
 pub fn group_fault(tokens: &Cursor<'_>, syntax: Syntax) -> ParserError
-    ensures { AtOneToken result }
+    ensures { Unfit syntax result (left tokens.now) }
 {
     match tokens.next_word() {
         Some("oneof") => ParserError::OneOfInGroup,
@@ -308,7 +301,7 @@ pub fn group_fault(tokens: &Cursor<'_>, syntax: Syntax) -> ParserError
 
 /// Why no statement of a oneof begins with the next token: S11 at a label, S14 at `map`, else S8.
 pub fn oneof_fault(tokens: &Cursor<'_>) -> ParserError
-    ensures { AtOneToken result }
+    ensures { UnfitInBoth result (left tokens.now) }
 {
     match tokens.next_word() {
         Some("map") => ParserError::MapFieldNotAllowed,

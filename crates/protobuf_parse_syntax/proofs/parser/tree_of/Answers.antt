@@ -5,7 +5,7 @@ use Rattle.protobuf_parse_lexer.specs.declared.error.ParserError.TheVariants.{In
 use Rattle.protobuf_parse_lexer.specs.declared.lexer.token.Place.{Place}
 use Rattle.protobuf_parse_syntax.specs.Trees.{file_syntax}
 use Rattle.protobuf_parse_syntax.specs.Nested as nest
-use Rattle.protobuf_parse_syntax.specs.Code.{left, Fails, IsWrong, NoVersion, RefusesFile}
+use Rattle.protobuf_parse_syntax.specs.Code.{left, Fails, FileFails, RefusesFile}
 use Rattle.protobuf_parse_syntax.specs.declared.parser.refusal.Refusal.TheVariants.{Fault}
 use Rattle.protobuf_parse_syntax.proofs.File.{found, only, ends_there, leftover, refused, told_or}
 use Rattle.protobuf_parse_syntax.proofs.Levels.{enough_levels}
@@ -73,7 +73,7 @@ returns-in-Err-clause-refused c =
     let s = lies_ahead c.args.tokens in
     let n : ℕ = 101 in
     let h = subst (λ v. Fails c.in-Err.refusal (left c.file.new.tokens) ((nest.file n).low.run v)
-    ⊎ IsWrong NoVersion v c.in-Err.refusal (left c.file.new.tokens) ((nest.file n).low.run v))
+    ⊎ FileFails v c.in-Err.refusal (left c.file.new.tokens) ((nest.file n).low.run v))
     c.new-left.ensures c.in-Err.ensures in
     elim c.requires [
       | inl none ↦ inr (inl none)

@@ -20,8 +20,8 @@ use Rattle.protobuf_parse_syntax.proofs.parser.field.+field.Goals.{field_of-in_d
 
 pub field_of-returns-then-not-begins_field : goal.field_of-returns-then-not-begins_field
 field_of-returns-then-not-begins_field t c =
-    field_absent c.args.syntax c.args.inner (left c.args.tokens.now) c.field_fault.result
-    (sym c.begins_field.ensures ∙ c.if-not-begins_field.true) c.field_fault.ensures
+    field_absent c.args.syntax c.args.inner (left c.args.tokens.now)
+    (sym c.begins_field.ensures ∙ c.if-not-begins_field.true)
 
 pub field_of-returns-then-matches : goal.field_of-returns-then-matches
 field_of-returns-then-matches t c =
