@@ -6,16 +6,16 @@ use Rattle.std.specs.BTreeMap.{BTreeMap, get_by_text}
 use Rattle.std.specs.Global.{Global}
 use Rattle.std.specs.Prelude.{slice_get}
 use Rattle.std.specs.Option.{option_and_then, option_copied}
-use Rattle.protobuf_parse_model.specs.Descriptors.{Text, file_view}
+use Rattle.protobuf_parse_model.specs.Descriptors.{FileDescriptor, Text, file_view}
 use Rattle.protobuf_parse_model.specs.declared.descriptor.EnumValueDescriptorProto.{EnumValueDescriptorProto}
 use Rattle.protobuf_parse_model.specs.declared.descriptor.FieldDescriptorProto.{FieldDescriptorProto}
 use Rattle.protobuf_parse_model.specs.declared.descriptor.FileDescriptorProto.{FileDescriptorProto}
 use Rattle.protobuf_parse_index.specs.Keeping.{Indexes, files_seen}
-use Rattle.protobuf_parse_index.specs.Kept.{HasPositions, field_at, first_at, own_fields}
+use Rattle.protobuf_parse_index.specs.Kept.{HasPaths, HasPositions, field_at, first_at, own_fields}
 use Rattle.protobuf_parse_index.specs.Kept.{own_values, value_at}
 use Rattle.protobuf_parse_index.specs.Lookups.{own_field, own_value}
 use Rattle.protobuf_parse_index.specs.Views.{standing}
-use Rattle.protobuf_parse_index.specs.Walk.{Standing}
+use Rattle.protobuf_parse_index.specs.Walk.{Standing, path_of}
 use Rattle.protobuf_parse_index.specs.declared.declared.Declared.{Declared}
 use Rattle.protobuf_parse_index.specs.declared.index.Index.TheInside.{Inside}
 use Rattle.protobuf_parse_index.proofs.Positions.{first_at-map, numbered_there}
@@ -58,4 +58,13 @@ has_positions {T} {X} view positions lent items xs at same is = record {
       ∙ ap (first_at (λ (d : Declared T). bytes_eq q (string_bytes d.full_name))) same
       ∙ sym (first_at-map (standing view) (λ (x : Standing X). bytes_eq q x.name) items)
       ∙ ap (first_at (λ (x : Standing X). bytes_eq q x.name)) is;
+}
+
+pub has_paths : (positions : BTreeMap (String Global) ℕ) (files : List FileDescriptorProto)
+    → ((q : Text) → get_by_text positions q
+    ≡ first_at (λ (f : FileDescriptorProto). bytes_eq q (path_of (file_view f))) files)
+    → HasPaths positions (map file_view files)
+has_paths positions files at = record {
+  at = λ q. at q
+      ∙ sym (first_at-map file_view (λ (f : FileDescriptor). bytes_eq q (path_of f)) files);
 }

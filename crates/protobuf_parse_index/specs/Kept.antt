@@ -16,6 +16,7 @@ use Rattle.protobuf_parse_wire.specs.Declarations.{extends}
 use Rattle.protobuf_parse_index.specs.Lookups.{field_with, value_with}
 use Rattle.protobuf_parse_index.specs.Views.{standing_enum, standing_extension, standing_message}
 use Rattle.protobuf_parse_index.specs.Walk.{Standing, all_enums, all_extensions, all_messages}
+use Rattle.protobuf_parse_index.specs.Walk.{path_of}
 use Rattle.protobuf_parse_index.specs.declared.walk.Walk.{Walk}
 
 -- ---- the walk
@@ -41,6 +42,12 @@ position_named {X} name xs = first_at (λ (x : Standing X). bytes_eq name x.name
 pub record HasPositions {X : Type 0} (positions : BTreeMap (String Global) ℕ)
     (xs : List (Standing X)) : Type 0 where
   pub at : (name : Text) → get_by_text positions name ≡ position_named name xs
+
+-- The map has of each path the position of the first file that is known by it.
+pub record HasPaths (positions : BTreeMap (String Global) ℕ) (files : List FileDescriptor) : Type 0
+  where
+    pub at : (path : Text) → get_by_text positions path
+        ≡ first_at (λ (f : FileDescriptor). bytes_eq path (path_of f)) files
 
 -- ---- numbers
 

@@ -1,3 +1,4 @@
+pub mod Empty
 pub mod Walk
 pub mod Lookups
 pub mod Views

@@ -1,14 +1,17 @@
 -- What full names and numbers mean in files: of several declarations with one name, or fields or
 -- values with one number, the first.
-use Rattle.std.specs.Prelude.{ℤ, ◌&&◌, List, find, Option, None, option_map, bytes_eq}
+use Rattle.std.specs.Prelude.{ℕ, ℤ, pos, negsuc, ◌&&◌, List, find, Option, Some, None}
+use Rattle.std.specs.Prelude.{option_map, bytes_eq, slice_get}
 use Rattle.std.specs.Option.{option_and_then, option_or}
 use Rattle.std.specs.Ordering.{int_eq}
 use Rattle.protobuf_parse_model.specs.Descriptors.{Text, FileDescriptor, FieldDescriptor}
 use Rattle.protobuf_parse_model.specs.Descriptors.{EnumDescriptor, EnumValueDescriptor}
-use Rattle.protobuf_parse_model.specs.Descriptors.{MessageDescriptor, parts_seen}
+use Rattle.protobuf_parse_model.specs.Descriptors.{MessageDescriptor, MethodDescriptor}
+use Rattle.protobuf_parse_model.specs.Descriptors.{OneofDescriptor, ServiceDescriptor, parts_seen}
 use Rattle.protobuf_parse_wire.specs.Declarations.{extends}
 use Rattle.protobuf_parse_wire.specs.Trees.{ValueTree, bytes, message, number, truth}
 use Rattle.protobuf_parse_index.specs.Walk.{Standing, all_enums, all_extensions, all_messages}
+use Rattle.protobuf_parse_index.specs.Walk.{all_services, path_of}
 
 -- ---- by full names
 
@@ -27,6 +30,47 @@ enum_named files name = named name (all_enums files)
 -- the extension of that full name
 abbrev pub extension_named : List FileDescriptor → Text → Option (Standing FieldDescriptor)
 extension_named files name = named name (all_extensions files)
+
+-- the service of that full name
+abbrev pub service_named : List FileDescriptor → Text → Option (Standing ServiceDescriptor)
+service_named files name = named name (all_services files)
+
+-- the file that is known by that path
+abbrev pub file_named : List FileDescriptor → (path : Text) → Option FileDescriptor
+file_named files path = find (λ (f : FileDescriptor). bytes_eq path (path_of f)) files
+
+-- ---- by names in a declaration
+
+-- the first of the methods that has the name
+abbrev pub method_with : (name : Text) → List MethodDescriptor → Option MethodDescriptor
+method_with name methods = find (λ (m : MethodDescriptor). bytes_eq name m.name) methods
+
+-- the method of that name of the service of that full name
+abbrev pub method_named : List FileDescriptor → (of name : Text) → Option MethodDescriptor
+method_named files of name =
+    option_and_then (λ (s : Standing ServiceDescriptor). method_with name s.what.method)
+    (service_named files of)
+
+-- the first of the values that has the name
+abbrev pub value_called : (name : Text) → List EnumValueDescriptor → Option EnumValueDescriptor
+value_called name values = find (λ (v : EnumValueDescriptor). bytes_eq name v.name) values
+
+-- the value of that name of the enum of that full name
+abbrev pub value_named : List FileDescriptor → (of name : Text) → Option EnumValueDescriptor
+value_named files of name =
+    option_and_then (λ (e : Standing EnumDescriptor). value_called name e.what.value)
+    (enum_named files of)
+
+-- ---- by positions
+
+-- what stands at the position, if it is one
+abbrev pub at_index : {X : Type 0} → List X → ℤ → Option X
+at_index xs (pos n) = slice_get xs n
+at_index xs (negsuc n) = None
+
+-- the oneof of the message that the field stands in, if it stands in one
+abbrev pub oneof_of : MessageDescriptor → FieldDescriptor → Option OneofDescriptor
+oneof_of m field = option_and_then (at_index (parts_seen m).oneof_decl) field.oneof_index
 
 -- ---- by numbers
 

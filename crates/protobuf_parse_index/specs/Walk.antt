@@ -4,6 +4,7 @@
 use Rattle.std.specs.Prelude.{List, [], ◌∷◌, ◌++◌, map, flat_map, unwrap_or}
 use Rattle.protobuf_parse_model.specs.Descriptors.{Text, FileDescriptor, FieldDescriptor}
 use Rattle.protobuf_parse_model.specs.Descriptors.{EnumDescriptor, MessageDescriptor}
+use Rattle.protobuf_parse_model.specs.Descriptors.{ServiceDescriptor}
 use Rattle.protobuf_parse_model.specs.Descriptors.{MessageDescriptors, a_message, no_messages}
 use Rattle.protobuf_parse_model.specs.Descriptors.{messages, parts_seen}
 use Rattle.protobuf_parse_wire.specs.Declarations.{name_within, package_scope}
@@ -79,6 +80,19 @@ abbrev pub extensions_of : FileDescriptor → List (Standing FieldDescriptor)
 extensions_of file = flat_map extensions_inside (messages_of file)
     ++ extensions_within (path_of file) (package_scope file.«package») file.extension
 
+-- ---- services
+
+-- the services of a file
+abbrev pub services_of : FileDescriptor → List (Standing ServiceDescriptor)
+services_of file = map
+    (λ (s : ServiceDescriptor).
+    record {
+      file = path_of file;
+      name = name_within (package_scope file.«package») s.name;
+      what = s;
+    })
+    file.service
+
 -- ---- all files
 
 -- every message that some file declares
@@ -92,3 +106,7 @@ all_enums files = flat_map enums_of files
 -- every extension that some file declares
 abbrev pub all_extensions : List FileDescriptor → List (Standing FieldDescriptor)
 all_extensions files = flat_map extensions_of files
+
+-- every service that some file declares
+abbrev pub all_services : List FileDescriptor → List (Standing ServiceDescriptor)
+all_services files = flat_map services_of files

@@ -7,25 +7,31 @@ ghost use Rattle.protobuf_parse_model.specs.Descriptors.{enum_value_view, file_v
 ghost use Rattle.protobuf_parse_model.specs.declared.descriptor.EnumValueDescriptorProto.{EnumValueDescriptorProto};
 ghost use Rattle.protobuf_parse_wire.specs.Views.{read_field_view, read_value_view};
 ghost use Rattle.protobuf_parse_index.specs.Lookups as spec;
-ghost use Rattle.protobuf_parse_index.specs.Lookups.{enum_named, extension_named};
+ghost use Rattle.protobuf_parse_index.specs.Lookups.{enum_named, extension_named, file_named};
 ghost use Rattle.protobuf_parse_index.specs.Lookups.{extension_numbered, field_numbered};
-ghost use Rattle.protobuf_parse_index.specs.Lookups.{message_named, value_name, value_read};
+ghost use Rattle.protobuf_parse_index.specs.Lookups.{message_named, method_named, service_named};
+ghost use Rattle.protobuf_parse_index.specs.Lookups.{value_name, value_named, value_read};
 ghost use Rattle.protobuf_parse_index.specs.Options.{name_in_options, without_dot};
 ghost use Rattle.protobuf_parse_index.specs.Views.{enum_found, extension_found, field_found};
-ghost use Rattle.protobuf_parse_index.specs.Views.{message_found, standing_enum};
+ghost use Rattle.protobuf_parse_index.specs.Views.{file_found, message_found, method_found};
+ghost use Rattle.protobuf_parse_index.specs.Views.{service_found, standing_enum};
 ghost use Rattle.protobuf_parse_index.specs.Views.{standing_extension, standing_message};
+ghost use Rattle.protobuf_parse_index.specs.Views.{standing_service, value_found};
 ghost use Rattle.protobuf_parse_index.specs.Views.{text_found};
 ghost use Rattle.protobuf_parse_index.specs.Walk.{all_enums, all_extensions, all_messages};
+ghost use Rattle.protobuf_parse_index.specs.Walk.{all_services};
 
 use crate::declared::Declared;
-use crate::names::{Positions, at_name, at_position, positions_of};
+use crate::inside::{method_with, value_called};
+use crate::names::{Positions, at_name, at_position, paths_of, positions_of};
 use crate::numbers::{
     ByExtendee, ByNumber, extension_at, extension_numbers, fields_of_each, values_of_each,
 };
+use crate::services::services_of;
 use crate::walk::{Walk, walk_of};
 use protobuf_parse_model::{
     DescriptorProto, EnumDescriptorProto, EnumValueDescriptorProto, FieldDescriptorProto,
-    FileDescriptorProto,
+    FileDescriptorProto, MethodDescriptorProto, ServiceDescriptorProto,
 };
 use protobuf_parse_wire::{ReadField, ReadValue};
 use std::alloc::{AllocError, Global};
@@ -50,6 +56,9 @@ use std::marker::Model;
 pub struct Index<'a> {
     files: &'a [FileDescriptorProto],
     declared: Walk<'a>,
+    services: Vec<Declared<'a, ServiceDescriptorProto>>,
+    services_by_name: Positions,
+    files_by_path: Positions,
     messages_by_name: Positions,
     enums_by_name: Positions,
     extensions_by_name: Positions,
@@ -90,12 +99,18 @@ impl<'a> Index<'a> {
         let messages_by_name = positions_of(alloc, &declared.messages)?;
         let enums_by_name = positions_of(alloc, &declared.enums)?;
         let extensions_by_name = positions_of(alloc, &declared.extensions)?;
+        let services = services_of(alloc, files)?;
+        let services_by_name = positions_of(alloc, &services)?;
+        let files_by_path = paths_of(alloc, files)?;
         let fields = fields_of_each(alloc, &declared.messages)?;
         let values = values_of_each(alloc, &declared.enums)?;
         let extensions_by_number = extension_numbers(alloc, &declared.extensions)?;
         Ok(Index {
             files,
             declared,
+            services,
+            services_by_name,
+            files_by_path,
             messages_by_name,
             enums_by_name,
             extensions_by_name,
@@ -142,6 +157,24 @@ impl<'a> Index<'a> {
         &self.declared.extensions
     }
 
+    /// All services, in the order of the files and of declaration.
+    pub fn services(&self) -> &[Declared<'a, ServiceDescriptorProto>]
+        ensures { map standing_service result.now ≡ all_services (map file_view self.now) }
+    {
+        &self.services
+    }
+
+    /// The first file that is known by that path, as the `file` of a `Declared` is.
+    ///
+    /// ```text
+    /// let file = index.file(message.file); // the file that the message stands in
+    /// ```
+    pub fn file(&self, path: &str) -> Option<&'a FileDescriptorProto>
+        ensures { file_found result ≡ file_named (map file_view self.now) path.now }
+    {
+        at_name(&self.files_by_path, self.files, path)
+    }
+
     /// The first message of that full name.
     ///
     /// ```text
@@ -160,6 +193,45 @@ impl<'a> Index<'a> {
         ensures { enum_found result ≡ enum_named (map file_view self.now) full_name.now }
     {
         at_name(&self.enums_by_name, &self.declared.enums, full_name)
+    }
+
+    /// The first service of that full name: `.shop.Orders`.
+    pub fn service(&self, full_name: &str) -> Option<&Declared<'a, ServiceDescriptorProto>>
+        ensures { service_found result ≡ service_named (map file_view self.now) full_name.now }
+    {
+        at_name(&self.services_by_name, &self.services, full_name)
+    }
+
+    /// The first method of that name of the service of that full name. It goes through the methods
+    /// of the service.
+    ///
+    /// ```text
+    /// let place = index.method(".shop.Orders", "Place");
+    /// ```
+    pub fn method(&self, service: &str, name: &str) -> Option<&'a MethodDescriptorProto>
+        ensures { method_found result
+            ≡ method_named (map file_view self.now) service.now name.now }
+    {
+        match self.service(service) {
+            Some(service) => method_with(&service.descriptor.method, name),
+            None => None,
+        }
+    }
+
+    /// The first value of that name of the enum of that full name. It goes through the values of
+    /// the enum.
+    ///
+    /// ```text
+    /// let staff = index.value_named(".shop.Audience", "STAFF");
+    /// ```
+    pub fn value_named(&self, enumeration: &str, name: &str) -> Option<&'a EnumValueDescriptorProto>
+        ensures { value_found result
+            ≡ value_named (map file_view self.now) enumeration.now name.now }
+    {
+        match self.enumeration(enumeration) {
+            Some(enumeration) => value_called(&enumeration.descriptor.value, name),
+            None => None,
+        }
     }
 
     /// The first extension of that full name: `.shop.owner`.

@@ -56,7 +56,8 @@ fn add_file<'a>(
     add_within(alloc, walk, path, &scope, &file.enum_type, &file.extension)
 }
 
-fn path_of(file: &FileDescriptorProto) -> &str
+/// The path by which the file is known, or no text where its descriptor has none.
+pub fn path_of(file: &FileDescriptorProto) -> &str
     ensures { result.now ≡ path_of (file_view file.now) }
 {
     match &file.name {

@@ -6,8 +6,7 @@ use Rattle.protobuf_parse_index.proofs.names.put_position.Goals as goal
 
 pub returns-in_ok-insert-in-None : goal.returns-in_ok-insert-in-None
 returns-in_ok-insert-in-None c =
-    position_put c.args.positions.now c.insert.new.self c.in_ok-clone-in-None.field-0 _ c.args.at
-    c.in_ok-clone-in-None.ensures.cases
-    (ap (get_by_text c.args.positions.now) (sym c.as_str.ensures.value)
-    ∙ sym (ap option_copied (sym c.in-None.is) ∙ c.get.ensures.value))
+    position_put c.args.positions.now c.insert.new.self c.in_ok-from_str-in-None.field-0 _ c.args.at
+    c.in_ok-from_str-in-None.ensures.ok
+    (sym (ap option_copied (sym c.in-None.is) ∙ c.get.ensures.value))
     c.in_ok-insert-in-None.ensures.updates
