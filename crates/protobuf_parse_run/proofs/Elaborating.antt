@@ -695,7 +695,7 @@ module _ (files : Files) (loaded : List LoadedEntry) (tables : Tables) (log : Li
       file_faults (environment (picked (with_next loaded t) sight)
       (customs_over descriptors reach sight) t) t)) any
       ∙ ap (λ (fs : List elaborating.Fault). before_others (own_faults files p (Some t))
-      (if list_any (is_faulty files) (files.reached p) then [] else fs)) (customs-told-equal h)
+      (if list_any (is_faulty files) (files.reached p) then [] else fs)) (customs-told-same h)
 
   told-equal : linked ≡ []
       → before_others (own_over (with_next loaded t) sight t)
@@ -706,7 +706,7 @@ module _ (files : Files) (loaded : List LoadedEntry) (tables : Tables) (log : Li
       ap (λ (fs : List elaborating.Fault). before_others fs
       (file_faults (environment (picked (with_next loaded t) sight)
       (customs_over descriptors reach sight) t) t)) (own-same h)
-      ∙ ap (before_others (own_faults files p (Some t))) (customs-told-equal h)
+      ∙ ap (before_others (own_faults files p (Some t))) (customs-told-same h)
 
   pub ending-told : (gathers : Bool) (f : elaborating.Fault)
       → IsToldOver gathers loaded (with_next loaded t) descriptors reach sight t f
