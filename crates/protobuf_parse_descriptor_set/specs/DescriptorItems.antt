@@ -15,6 +15,7 @@ use Rattle.protobuf_parse_descriptor_set.specs.Items.{Items, bytes_of, text, int
 use Rattle.protobuf_parse_descriptor_set.specs.Items.{options, some, flag_if}
 use Rattle.protobuf_parse_descriptor_set.specs.Numbers.{label_number, type_number}
 use Rattle.protobuf_parse_descriptor_set.specs.OneofOrder.{fields_in_set, oneofs_in_set}
+use Rattle.protobuf_parse_descriptor_set.specs.RangeEnds.{ranges_in_set}
 use Rattle.protobuf_parse_descriptor_set.specs.OptionItems.{file_option_bytes, message_option_bytes}
 use Rattle.protobuf_parse_descriptor_set.specs.OptionItems.{field_option_bytes, oneof_option_bytes}
 use Rattle.protobuf_parse_descriptor_set.specs.OptionItems.{enum_option_bytes}
@@ -68,11 +69,11 @@ message_front m = text 1 m.name ++ flat_map (λ f. part 2 (field_items f)) (fiel
 unfoldable pub message_back : MessageParts → Items
 message_back m =
     flat_map (λ e. part 4 (enum_items e)) m.enum_type
-    ++ flat_map (λ r. part 5 (range_items r)) m.extension_range
+    ++ flat_map (λ r. part 5 (range_items r)) (ranges_in_set m m.extension_range)
     ++ flat_map (λ f. part 6 (field_items f)) m.extension
     ++ some (λ o. options 7 (message_option_bytes o)) m.options
     ++ flat_map (λ o. part 8 (oneof_items o)) (oneofs_in_set m)
-    ++ flat_map (λ r. part 9 (range_items r)) m.reserved_range
+    ++ flat_map (λ r. part 9 (range_items r)) (ranges_in_set m m.reserved_range)
     ++ flat_map (text 10) m.reserved_name
 
 abbrev mutual

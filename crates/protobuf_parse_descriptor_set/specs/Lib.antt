@@ -3,6 +3,7 @@ pub mod Writing
 pub mod Numbers
 pub mod OptionItems
 pub mod OneofOrder
+pub mod RangeEnds
 pub mod DescriptorItems
 pub mod Laws
 pub mod Told

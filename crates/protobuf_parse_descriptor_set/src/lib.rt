@@ -9,6 +9,7 @@ mod numbers;
 mod oneofs;
 mod options;
 mod parts;
+mod ranges;
 mod records;
 
 ghost use Rattle.std.specs.Prelude.{◌≡◌, [], IfOk, map};
@@ -34,7 +35,9 @@ const FIELD_LEN: usize = 64;
 /// numbers (`specs/DescriptorItems.antt` has a line a field). What is absent or false isn't
 /// written, nor an options message in which nothing is set, nor a syntax but `proto3`. The bytes of
 /// custom options stand as they are, behind the built-in options. Synthetic oneofs stand behind the
-/// others, since readers refuse them elsewhere, and `oneof_index` says the new indices.
+/// others, since readers refuse them elsewhere, and `oneof_index` says the new indices. Where a
+/// message has `message_set_wire_format`, an end of 536870912, which `max` has in a descriptor, is
+/// written as 2147483647.
 ///
 /// The one error is that memory is short. A message with 2^31 oneofs or more counts as such: no
 /// `oneof_index` could tell their indices, and no reader takes a message of its size.

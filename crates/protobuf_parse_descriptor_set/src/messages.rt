@@ -13,12 +13,12 @@ use crate::numbers::{label_number, type_number};
 use crate::oneofs::{index_in_set, new_indices, synthetic_oneofs};
 use crate::options::put_options_of_field;
 use crate::parts::{Described, begin_message, end_message, put_options, put_part, put_parts};
+use crate::ranges::{is_message_set, put_ranges};
 use crate::records::{
     put_choice, put_flag_if, put_int, put_int_if_some, put_text, put_text_if_some, put_texts,
 };
 use protobuf_parse_model::{
-    DescriptorProto, ExtensionRange, FieldDescriptorProto, FieldType, Label, OneofDescriptorProto,
-    ReservedRange,
+    DescriptorProto, FieldDescriptorProto, FieldType, Label, OneofDescriptorProto,
 };
 use std::alloc::{AllocError, Global};
 
@@ -116,12 +116,13 @@ fn put_message_back(
         (Writes (spec.message_back (model.message_parts message.now))
         out.old.items out.new.items) }
 {
+    let message_set = is_message_set(message);
     put_parts(alloc, out, 4, &message.enum_type)?;
-    put_parts(alloc, out, 5, &message.extension_range)?;
+    put_ranges(out, 5, &message.extension_range, message_set)?;
     put_parts(alloc, out, 6, &message.extension)?;
     put_options(out, 7, &message.options)?;
     put_oneofs(alloc, out, &message.oneof_decl, synthetic)?;
-    put_parts(alloc, out, 9, &message.reserved_range)?;
+    put_ranges(out, 9, &message.reserved_range, message_set)?;
     put_texts(out, 10, &message.reserved_name)
 }
 
@@ -227,33 +228,5 @@ impl Described for OneofDescriptorProto {
     fn put(&self, _alloc: Global, out: &mut Vec<u8>) -> Result<(), AllocError> {
         put_text(out, 1, self.name.as_str())?;
         put_options(out, 2, &self.options)
-    }
-}
-
-impl Described for ExtensionRange {
-    ghost View = { model.Range };
-
-    ghost view = { model.extension_range_view };
-
-    ghost items = { spec.range_items };
-
-    #[tactic(auto, unfolding(crate::specs::DescriptorItems::range_items))]
-    fn put(&self, _alloc: Global, out: &mut Vec<u8>) -> Result<(), AllocError> {
-        put_int(out, 1, &self.start)?;
-        put_int(out, 2, &self.end)
-    }
-}
-
-impl Described for ReservedRange {
-    ghost View = { model.Range };
-
-    ghost view = { model.reserved_range_view };
-
-    ghost items = { spec.range_items };
-
-    #[tactic(auto, unfolding(crate::specs::DescriptorItems::range_items))]
-    fn put(&self, _alloc: Global, out: &mut Vec<u8>) -> Result<(), AllocError> {
-        put_int(out, 1, &self.start)?;
-        put_int(out, 2, &self.end)
     }
 }

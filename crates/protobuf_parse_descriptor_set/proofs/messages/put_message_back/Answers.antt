@@ -17,10 +17,11 @@ pub returns : goal.returns
 unfolding message_back
 returns c =
     let enums = rw c.deref.ensures.value at c.in_ok-put_parts.ensures in
-    let ranges = rw c.deref-2.ensures.value at c.in_ok-put_parts-2.ensures in
-    let extensions = rw c.deref-3.ensures.value at c.in_ok-put_parts-3.ensures in
+    let ranges = rw (c.deref-2.ensures.value, c.is_message_set-message_set.ensures) at c.in_ok-put_ranges.ensures in
+    let extensions = rw c.deref-3.ensures.value at c.in_ok-put_parts-2.ensures in
     let oneofs = rw (c.deref-4.ensures.value, c.requires) at c.in_ok-put_oneofs.ensures in
-    let reserved = rw c.deref-5.ensures.value at c.in_ok-put_parts-4.ensures in
+    let reserved =
+    rw (c.deref-5.ensures.value, c.is_message_set-message_set.ensures) at c.in_ok-put_ranges-2.ensures in
     let names = rw c.deref-6.ensures.value at c.put_texts.ensures in
     let to1 = joined enums ranges in
     let to2 = joined to1 extensions in

@@ -1,6 +1,6 @@
 use Rattle.protobuf_parse_descriptor_set.specs.DescriptorItems.{range_items}
 use Rattle.protobuf_parse_descriptor_set.proofs.Joining.{joined, on_ok_then}
-use Rattle.protobuf_parse_descriptor_set.proofs.messages.ReservedRangeDescribed.put.Goals as goal
+use Rattle.protobuf_parse_descriptor_set.proofs.ranges.put_range.Goals as goal
 
 pub returns : goal.returns
 unfolding range_items
