@@ -18,6 +18,18 @@ use protobuf_parse_run::FileReport;
 use protobuf_parse_syntax::Place;
 use std::alloc::{AllocError, Global};
 
+/// Options that `protoc` has in some version, and this library in none or not for each construct.
+const OPTIONS_OF_PROTOC: &[&str] = &[
+    "debug_redact",
+    "deprecated_legacy_json_field_conflicts",
+    "edition_defaults",
+    "feature_support",
+    "features",
+    "php_generic_services",
+    "retention",
+    "targets",
+];
+
 /// The code of a fault of meaning: E1 to E28.
 pub fn meaning_code(fault: ElabErrorKind) -> &'static str {
     match fault {
@@ -275,14 +287,7 @@ fn builtin_sentence(alloc: Global, error: &ElabError) -> Result<Sentence, AllocE
             "a string for `{what}` has an escape that means nothing, or is no UTF-8"
         )?,
         ElabErrorKind::WrongOptionType => format!(in alloc; "`{what}` takes a string")?,
-        ElabErrorKind::BuiltinOptionNotFound => {
-            let message = format!(in alloc; "there is no option `{what}` here")?;
-            let help = "the name of an option of one's own stands in parentheses";
-            return Ok(Sentence {
-                message,
-                help: Some(String::from_str(alloc, help)?),
-            });
-        }
+        ElabErrorKind::BuiltinOptionNotFound => return option_not_found(alloc, what),
         ElabErrorKind::InconvertibleValue => {
             let values = values_of_option(alloc, what)?;
             format!(in alloc; "`{what}` takes {values}")?
@@ -290,6 +295,35 @@ fn builtin_sentence(alloc: Global, error: &ElabError) -> Result<Sentence, AllocE
         _ => String::from_str(alloc, "`uninterpreted_option` cannot be set")?,
     };
     Ok(Sentence::new(message))
+}
+
+/// Of an option that isn't in the table of the built-in ones.
+fn option_not_found(alloc: Global, what: &str) -> Result<Sentence, AllocError> {
+    let (message, help) = if OPTIONS_OF_PROTOC.contains(&what) {
+        let message = format!(in alloc; "the option `{what}` of `protoc` is not known here")?;
+        (message, "leave it out, or have `protoc` write the set")
+    } else {
+        let message = format!(in alloc; "there is no option `{what}` here")?;
+        (
+            message,
+            "the name of an option of one's own stands in parentheses",
+        )
+    };
+    Ok(Sentence {
+        message,
+        help: Some(String::from_str(alloc, help)?),
+    })
+}
+
+/// Of a field that a message has not, also of an options message: `features.field_presence`.
+fn field_not_found(alloc: Global, what: &str) -> Result<Sentence, AllocError> {
+    let message = format!(in alloc; "the message has no field \"{what}\"")?;
+    let help = if OPTIONS_OF_PROTOC.contains(&what) {
+        Some(format!(in alloc; "the option `{what}` of `protoc` is not known here")?)
+    } else {
+        None
+    };
+    Ok(Sentence { message, help })
 }
 
 /// Of options that extensions declare.
@@ -305,9 +339,7 @@ fn custom_sentence(alloc: Global, error: &ElabError) -> Result<Sentence, AllocEr
         ElabErrorKind::ExtensionIsNotMessage => format!(in alloc;
             "`{what}` is no message, so nothing in it can be set"
         )?,
-        ElabErrorKind::UnknownFieldName => {
-            format!(in alloc; "the message has no field \"{what}\"")?
-        }
+        ElabErrorKind::UnknownFieldName => return field_not_found(alloc, what),
         ElabErrorKind::UnknownEnumValue => {
             format!(in alloc; "the enum has no value \"{what}\"")?
         }
