@@ -4,10 +4,11 @@
     scripts/compare_sets.py [--program PROGRAM] FOLDER [INCLUDE..]
 
 Of each .proto file below FOLDER that protoc accepts, with FOLDER and the others as includes, it
-takes the set with all imports as protoc writes it, and as the benchmark does with --sets. It tells
-whether the bytes are the same; whether Python's package for Protocol Buffers reads ours, writes the
-same bytes again and makes descriptors of them; and whether protoc takes ours to make code in Python
-and in C++. Two rules of this library are told apart: see by_our_rules. It wants protoc and that
+takes the set with all imports as protoc writes it, and as PROGRAM does, which is the command. It
+tells whether the bytes are the same; whether Python's package for Protocol Buffers reads ours,
+writes the same bytes again and makes descriptors of them; and whether protoc takes ours to make
+code in Python and in C++. A rule of this library is told apart: see by_our_rules. What protoc and
+the command bring of Google's files need not be among the includes. It wants protoc and that
 package. Its status is 1 where ours are not read by all."""
 
 import argparse
@@ -36,19 +37,10 @@ def ran(words):
     return done.returncode == 0, done.stderr.strip()
 
 
-def by_protoc(includes, path, out):
-    words = ["protoc", *(f"-I{it}" for it in includes), "--include_imports"]
-    return ran([*words, f"--descriptor_set_out={out}", path])[0]
-
-
-def by_program(program, includes, paths, room):
-    """Has the program write its sets, in one run."""
-    for at, path in enumerate(paths):
-        line = "\t".join([f"{room}/{at}.ours", ":".join(includes), f"{includes[0]}/{path}"])
-        with open(f"{room}/list", "a", encoding="utf-8") as it:
-            it.write(line + "\n")
-    words = [program, "--sets", f"{room}/list"]
-    print(subprocess.run(words, check=True, capture_output=True, text=True).stdout)
+def written(program, includes, path, out, *words):
+    """Whether protoc or the command writes the set of a schema."""
+    words = [program, *(f"-I{it}" for it in includes), "--include_imports", "-o", out, *words]
+    return ran([*words, path])[0]
 
 
 def content(path):
@@ -59,24 +51,13 @@ def content(path):
         return None
 
 
-def messages(values):
-    """Messages and those inside them."""
-    for it in values:
-        yield it
-        yield from messages(it.nested_type)
-
-
 def by_our_rules(data):
-    """A set of protoc as descriptors have it here: no options that a method's empty block makes,
-    and in a message set the largest number of other messages."""
+    """A set of protoc as descriptors have it here: no options that a method's empty block makes."""
     found = descriptor_pb2.FileDescriptorSet.FromString(data)
     for file in found.file:
         for method in (it for service in file.service for it in service.method):
             if not method.options.ByteSize():
                 method.ClearField("options")
-        for message in messages(file.message_type):
-            for it in message.extension_range:
-                it.end = min(it.end, 536870912)
     return found.SerializeToString()
 
 
@@ -118,28 +99,25 @@ def told(at, path, room):
     if ours == theirs:
         return "the same bytes", wrong
     is_rule = ours == by_our_rules(theirs)
-    return "the same bytes but for rules of this library" if is_rule else "other bytes", wrong
+    return "the same bytes but for a method's empty block" if is_rule else "other bytes", wrong
 
 
 def main():
     parser = argparse.ArgumentParser()
-    built = f"{TOP}/crates/protobuf_parse_bench/out/protobuf_parse_bench"
+    built = f"{TOP}/crates/protobuf_parse_cli/out/protobuf_parse_cli"
     parser.add_argument("--program", default=built)
     parser.add_argument("folder")
     parser.add_argument("include", nargs="*")
     given = parser.parse_args()
     includes = [os.path.abspath(it) for it in [given.folder, *given.include]]
+    program = os.path.abspath(given.program)
     counts = collections.Counter()
     with tempfile.TemporaryDirectory() as room:
-        paths = []
-        for path in schemas(includes[0]):
-            if by_protoc(includes, path, f"{room}/{len(paths)}.theirs"):
-                paths.append(path)
-            else:
+        for at, path in enumerate(schemas(includes[0])):
+            if not written("protoc", includes, path, f"{room}/{at}.theirs"):
                 counts["refused by protoc"] += 1
-        if paths:
-            by_program(os.path.abspath(given.program), includes, paths, room)
-        for at, path in enumerate(paths):
+                continue
+            written(program, includes, path, f"{room}/{at}.ours", "--rules=off")
             result, wrong = told(at, path, room)
             counts[result] += 1
             counts["not read by all"] += bool(wrong)

@@ -6,9 +6,6 @@
 //! - `--same TEXT PATHS`: loads a file of this text for each line of PATHS;
 //! - `--read TEXT N`: reads N empty messages in option bytes, each the field 1 of the message
 //!   `Wide` of TEXT;
-//! - `--sets LIST`: writes descriptor sets: a line of LIST has a file that is written, includes
-//!   with `:` between them and an input, with tabs between the three, and the set has the input and
-//!   all that it imports;
 //! - `--rules FOLDER INPUT`: looks for violations in INPUT, below FOLDER, and all that it imports;
 //! - `--damage N TEXT..`: N texts that differ in a few bytes from these, and what becomes of them;
 //! - `--damage-bytes N TEXT`: the same of the option bytes of the last message of TEXT.
@@ -28,7 +25,7 @@ use crate::damage::{damage_bytes, damage_texts};
 use crate::graph::load;
 use crate::rules::measure_rules;
 use crate::same::{described, load_same, read_small};
-use crate::sets::{measure_set, write_sets};
+use crate::sets::measure_set;
 use anyhow::{Result, anyhow};
 use protobuf_parse::listing;
 use protobuf_parse_syntax::{parse_file, tokenize};
@@ -161,9 +158,6 @@ fn run<R: Runtime<A = Global>>(rt: &R, given: &[String]) -> Result<()> {
         [word, files] if word.as_str() == "--files" => measure_files(rt, files.parse()?),
         [word, count, names @ ..] if word.as_str() == "--damage" => {
             damage_files(rt, count.parse()?, names)
-        }
-        [word, list] if word.as_str() == "--sets" => {
-            write_sets(rt, fs::read_to_string(rt, list.as_str())?.as_str())
         }
         [word, first, second] => run_word(rt, word, first, second),
         _ => Err(anyhow!("what to do?")),
