@@ -26,6 +26,7 @@ pub use protobuf_parse_descriptor_set::{
 pub use protobuf_parse_elaboration::{
     custom_options_are_of_sets, types_are_declared, types_are_looked_up,
 };
+pub use protobuf_parse_google::google_files;
 pub use protobuf_parse_listing::{builtin_options_are_listed, listing};
 pub use protobuf_parse_model::{
     CType, DescriptorProto, ElabError, ElabErrorKind, EnumDescriptorProto, EnumOptions,

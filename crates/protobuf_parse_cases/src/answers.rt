@@ -6,6 +6,7 @@ mod calls;
 mod checked;
 mod checks;
 mod customs;
+mod google;
 mod imports;
 mod names;
 pub mod parsers;

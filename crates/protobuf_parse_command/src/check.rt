@@ -6,7 +6,7 @@ use crate::inputs::input_of;
 use crate::reading::Folders;
 use crate::survey::path_of;
 use crate::unread::fault_told;
-use protobuf_parse::{FileDescriptorProto, ReadEntry, RunFault, RunInput, RunLog, bundled_files};
+use protobuf_parse::{FileDescriptorProto, ReadEntry, RunFault, RunInput, RunLog, google_files};
 use protobuf_parse_diagnostics::{Diagnostic, RuleLevel, Sources, arrange, rule_diagnostics};
 use protobuf_parse_rules::{Violation, violations};
 use std::alloc::{AllocError, Global};
@@ -113,7 +113,7 @@ fn told_of_reads<R: Files + AllocGlobal>(
     reads: &[ReadEntry],
     fault: &RunFault,
 ) -> Result<Diagnostic, AllocError> {
-    let sources = Sources::of_reads(alloc, reads, bundled_files())?;
+    let sources = Sources::of_reads(alloc, reads, google_files())?;
     fault_told(rt, alloc, &sources, fault)
 }
 
@@ -139,7 +139,7 @@ fn tell_rules(
         return Ok(());
     }
     let found = told_violations(alloc, arguments, files, inputs)?;
-    let sources = Sources::of_reads(alloc, reads, bundled_files())?;
+    let sources = Sources::of_reads(alloc, reads, google_files())?;
     let mut rules = rule_diagnostics(alloc, &sources, &found, arguments.rules)?;
     told.append(&mut rules)
 }

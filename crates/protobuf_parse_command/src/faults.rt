@@ -4,7 +4,7 @@ use crate::reading::Folders;
 use crate::survey::{Survey, input_copy, path_of};
 use crate::unread::faults_told;
 use protobuf_parse::{
-    CheckLog, FileReport, ProtoPathBuf, ReadEntry, RunFault, RunInput, bundled_files,
+    CheckLog, FileReport, ProtoPathBuf, ReadEntry, RunFault, RunInput, google_files,
 };
 use protobuf_parse_diagnostics::{Diagnostic, Sources, Spread, fault_path, report_diagnostics};
 use std::alloc::{AllocError, Global};
@@ -102,7 +102,7 @@ impl State {
         if faults.is_empty() {
             return Ok(());
         }
-        let sources = Sources::of_reads(alloc, reads, bundled_files())?;
+        let sources = Sources::of_reads(alloc, reads, google_files())?;
         let mut told = faults_told(rt, alloc, &sources, faults)?;
         self.told.append(&mut told)?;
         let mut paths: Vec<&str> = Vec::new(alloc);
@@ -127,7 +127,7 @@ impl State {
         all: &[ReadEntry],
         reports: &[FileReport],
     ) -> Result<(), AllocError> {
-        let sources = Sources::of_reads(alloc, reads, bundled_files())?;
+        let sources = Sources::of_reads(alloc, reads, google_files())?;
         let mut told = report_diagnostics(alloc, &sources, reports)?;
         self.told.append(&mut told)?;
         let mut paths: Vec<&str> = Vec::new(alloc);
@@ -146,7 +146,7 @@ impl State {
         all: &[ReadEntry],
         paths: &[&str],
     ) -> Result<(), AllocError> {
-        let sources = Sources::of_reads(alloc, all, bundled_files())?;
+        let sources = Sources::of_reads(alloc, all, google_files())?;
         let Spread { affected, beside } = Spread::of(alloc, &sources, paths)?;
         for path in affected {
             self.beside.remove(path.as_str());

@@ -4,7 +4,7 @@ use crate::arguments::Arguments;
 use crate::inputs::input_of;
 use crate::reading::Folders;
 use crate::unread::fault_told;
-use protobuf_parse::{ReadEntry, RunFault, RunInput, bundled_files};
+use protobuf_parse::{ReadEntry, RunFault, RunInput, google_files};
 use protobuf_parse_diagnostics::{Diagnostic, Sources, arrange};
 use protobuf_parse_run::InputRead;
 use protobuf_parse_syntax::{FileStatement, FileTree, ImportVis};
@@ -48,7 +48,7 @@ fn add_fault<R: Files + AllocGlobal>(
     fault: &RunFault,
     imports: &mut Imports,
 ) -> Result<(), AllocError> {
-    let sources = Sources::of_reads(alloc, reads, bundled_files())?;
+    let sources = Sources::of_reads(alloc, reads, google_files())?;
     imports.told.push(fault_told(rt, alloc, &sources, fault)?)?;
     Ok(())
 }

@@ -1,7 +1,7 @@
 //! The files of a command line, and what they import: by runs, by checks, and one at a time.
 
 use protobuf_parse::{
-    CheckLog, FsReader, FsResolver, RunInput, RunLog, bundled_files, check_inputs, fs_resolver,
+    CheckLog, FsReader, FsResolver, RunInput, RunLog, google_files, check_inputs, fs_resolver,
     run_inputs,
 };
 use protobuf_parse_run::{InputRead, read_input};
@@ -31,16 +31,16 @@ impl<'r, R: Files + AllocGlobal> Folders<'r, R> {
 
     /// The run over these inputs.
     pub fn run(&self, alloc: Global, inputs: &[RunInput]) -> RunLog {
-        run_inputs(alloc, inputs, &self.resolver, &self.reader, bundled_files())
+        run_inputs(alloc, inputs, &self.resolver, &self.reader, google_files())
     }
 
     /// The check of these inputs.
     pub fn check(&self, alloc: Global, inputs: &[RunInput]) -> CheckLog {
-        check_inputs(alloc, inputs, &self.resolver, &self.reader, bundled_files())
+        check_inputs(alloc, inputs, &self.resolver, &self.reader, google_files())
     }
 
     /// Reads an input: by the resolver, or at its own path. The one error is that memory is short.
     pub fn read(&self, alloc: Global, input: &RunInput) -> Result<InputRead, AllocError> {
-        read_input(alloc, input, &self.resolver, &self.reader, bundled_files())
+        read_input(alloc, input, &self.resolver, &self.reader, google_files())
     }
 }

@@ -1,6 +1,7 @@
 //! Parsers over the real folders that stand beside the files of cases.
 
 use super::checks::put_reports;
+use super::google::beside_stored;
 use super::texts::without_last_feed;
 use super::{Nested, given_of};
 use crate::cases::{Case, Row};
@@ -25,6 +26,9 @@ impl<'r, R: Files + AllocGlobal> Answers for OnFiles<'r, R> {
             "parsed" => listed(self.rt, text_of(given_of(case, row))?),
             "parser_check" => reported(self.rt, text_of(given_of(case, row))?),
             "command" => return Ok(commanded(self.rt, text_of(given_of(case, row))?)?),
+            "google_set" => {
+                return Ok(beside_stored(self.rt, text_of(given_of(case, row))?)?.into_bytes());
+            }
             _ => return Nested.answer(alloc, case, row),
         };
         Ok(match outcome {

@@ -51,7 +51,7 @@ pub fn bundled_of<'a>(alloc: Global, files: &'a [CaseFile]) -> Result<Vec<(&'a s
 }
 
 /// What a run over these inputs did that asks the source for files.
-fn log_of<S: ProtoPathResolver + InputReader>(
+pub fn log_of<S: ProtoPathResolver + InputReader>(
     alloc: Global,
     words: &str,
     source: &S,
