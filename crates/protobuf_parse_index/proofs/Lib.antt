@@ -1,3 +1,4 @@
+mod Spelled
 pub mod Walked
 pub mod Positions
 pub mod Dots

@@ -6,3 +6,5 @@ pub mod Options
 pub mod Kept
 pub mod Keeping
 pub mod Puts
+pub mod Spellings
+pub mod Held

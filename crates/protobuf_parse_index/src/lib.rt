@@ -11,6 +11,7 @@ mod names;
 mod numbers;
 mod options;
 mod services;
+mod spellings;
 mod walk;
 
 pub use declared::Declared;
@@ -26,3 +27,4 @@ pub use index::Index;
 pub use inside::oneof_of;
 pub use options::{NamedOption, custom_options};
 pub use protobuf_parse_model::{label_word, type_word};
+pub use spellings::{lower_snake_case, upper_snake_case};
