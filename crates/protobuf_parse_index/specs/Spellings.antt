@@ -11,14 +11,14 @@ abbrev pub is_small : Option ℕ → Bool
 is_small None = false
 is_small (Some c) = is_ascii_lowercase c
 
--- Whether a word begins with the character: with a capital where a small letter or a digit stands
--- before it, or where a capital stands before it and a small letter behind it.
+-- Whether a word begins with the character: with a capital where a small letter stands before it,
+-- or where a capital or a digit stands before it and a small letter behind it.
 abbrev pub begins_word : (before : Option ℕ) → (c : ℕ) → (after : Option ℕ) → Bool
 begins_word None c after = false
 begins_word (Some before) c after =
     is_ascii_uppercase c
-    && (is_ascii_lowercase before || is_ascii_digit before
-    || is_ascii_uppercase before && is_small after)
+    && (is_ascii_lowercase before
+    || (is_ascii_uppercase before || is_ascii_digit before) && is_small after)
 
 -- the character in ASCII upper case, or in ASCII lower case
 abbrev pub in_case : (upper : Bool) → ℕ → ℕ

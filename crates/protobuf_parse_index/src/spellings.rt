@@ -9,14 +9,17 @@ ghost use Rattle.protobuf_parse_index.specs.Spellings as spec;
 use std::alloc::{AllocError, Global};
 
 /// The name in lower snake case: `HTTPStatus` and `httpStatus` are `http_status`. A capital begins
-/// a word where a small letter or a digit stands before it, and where a capital stands before it
+/// a word where a small letter stands before it, and where a capital or a digit stands before it
 /// and a small letter behind it; an underscore goes before it, and each letter into lower case. All
-/// else stays, underscores too. Letters are those of ASCII. The one error is that memory is short.
+/// else stays, underscores too, and a name that is spelled so stays as it is. Letters are those of
+/// ASCII. The one error is that memory is short.
 ///
 /// `snake_case` of `protobuf_parse` is another: it keeps capitals that follow one another together,
 /// so that `HTTPStatus` is `httpstatus`.
 pub fn lower_snake_case(alloc: Global, name: &str) -> Result<String, AllocError>
-    ensures { IfOk result (λ text. string_bytes text ≡ spec.lower_snake_case name.now) }
+    ensures text { IfOk result (λ text. string_bytes text ≡ spec.lower_snake_case name.now) }
+    ensures idempotent { IfOk result
+        (λ text. spec.lower_snake_case (string_bytes text) ≡ string_bytes text) }
 {
     spelled(alloc, name, false)
 }
@@ -24,15 +27,19 @@ pub fn lower_snake_case(alloc: Global, name: &str) -> Result<String, AllocError>
 /// The name in upper snake case, as values of enums have it: `HTTPStatus` is `HTTP_STATUS`. Words
 /// begin as in [`lower_snake_case`]. The one error is that memory is short.
 pub fn upper_snake_case(alloc: Global, name: &str) -> Result<String, AllocError>
-    ensures { IfOk result (λ text. string_bytes text ≡ spec.upper_snake_case name.now) }
+    ensures text { IfOk result (λ text. string_bytes text ≡ spec.upper_snake_case name.now) }
+    ensures idempotent { IfOk result
+        (λ text. spec.upper_snake_case (string_bytes text) ≡ string_bytes text) }
 {
     spelled(alloc, name, true)
 }
 
 /// Each character is held back until the next is known.
 fn spelled(alloc: Global, name: &str, upper: bool) -> Result<String, AllocError>
-    ensures { IfOk result (λ text. string_bytes text
+    ensures text { IfOk result (λ text. string_bytes text
         ≡ encode_utf8_all (spec.spelled upper None (chars name.now))) }
+    ensures idempotent { IfOk result (λ text. encode_utf8_all
+        (spec.spelled upper None (chars (string_bytes text))) ≡ string_bytes text) }
 {
     let mut text = String::with_capacity(alloc, name.len())?;
     let mut before = None;
@@ -95,8 +102,7 @@ fn begins_word(before: Option<char>, character: char, after: Option<char>) -> bo
         Some(before) => {
             character.is_ascii_uppercase()
                 && (before.is_ascii_lowercase()
-                    || before.is_ascii_digit()
-                    || before.is_ascii_uppercase() && is_small(after))
+                    || (before.is_ascii_uppercase() || before.is_ascii_digit()) && is_small(after))
         }
         None => false,
     }

@@ -2,11 +2,9 @@
 
 use crate::linted::{Linted, LintedFiles};
 use anyhow::{Context, Result};
-use protobuf_parse::{
-    DescriptorProto, FieldDescriptorProto, ProtobufAbsPathRef, camel_case, snake_case,
-};
+use protobuf_parse::{DescriptorProto, FieldDescriptorProto, ProtobufAbsPathRef, camel_case};
 use protobuf_parse_diagnostics::{DeclaredKind, Diagnostic};
-use protobuf_parse_index::{Declared, Index, custom_options};
+use protobuf_parse_index::{Declared, Index, custom_options, lower_snake_case};
 use std::alloc::{AllocError, Global};
 
 /// What the rules find in the files.
@@ -87,7 +85,7 @@ fn lint_field(
 ) -> Result<(), AllocError> {
     let name = field.name.as_str();
     let full_name = format!(in alloc; "{scope}.{name}")?;
-    let snake = snake_case(alloc, name)?;
+    let snake = lower_snake_case(alloc, name)?;
     if snake.as_str() != name {
         told.push(file.warning(
             alloc,

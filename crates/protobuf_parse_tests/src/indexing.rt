@@ -2,10 +2,11 @@
 
 use protobuf_parse::pure::parse_and_typecheck_custom;
 use protobuf_parse::{
-    FieldDescriptorProto, FileDescriptorProto, ProtoPath, ProtoPathBuf, ProtoPathResolver,
-    ProtobufAbsPathRef, ReadFault, ReadField, ReadValue, ResolveFault, ResolvedProtoFile,
+    DescriptorProto, FieldDescriptorProto, FileDescriptorProto, ProtoPath, ProtoPathBuf,
+    ProtoPathResolver, ProtobufAbsPathRef, ReadFault, ReadField, ReadValue, ResolveFault,
+    ResolvedProtoFile,
 };
-use protobuf_parse_index::{Declared, Index, custom_options, label_word, type_word};
+use protobuf_parse_index::{Declared, Index, custom_options, label_word, oneof_of, type_word};
 use std::alloc::{AllocError, Global};
 use std::fmt;
 use std::test::Fail;
@@ -75,7 +76,10 @@ const TEXTS: &[(&str, &str)] = &[
             extensions 100 to 200;
             optional int32 id = 1;
             optional int32 again = 1;
+            oneof one { int32 first = 2; int32 second = 3; }
+            oneof other { int32 third = 4; }
         }
+        service Items { rpc Come (Item) returns (Item.Part); }
         extend shop.Limits { optional int32 outer = 101; }
         extend Item { optional int32 more = 100; optional int32 same = 1; }",
     ),
@@ -87,12 +91,14 @@ const TEXTS: &[(&str, &str)] = &[
             optional string far = 2;
             message Late {}
         }
-        enum Kind { ZERO = 0; }",
+        enum Kind { ZERO = 0; }
+        service Late { rpc Come (Item) returns (Item); rpc Go (Item) returns (Item.Late); }
+        service Empty {}",
     ),
 ];
 
 /// The files of a run over both inputs.
-fn files(alloc: Global) -> Result<Vec<FileDescriptorProto>, Fail> {
+pub fn files(alloc: Global) -> Result<Vec<FileDescriptorProto>, Fail> {
     let first = ProtoPathBuf::new(String::from_str(alloc, "first.proto")?)?;
     let second = ProtoPathBuf::new(String::from_str(alloc, "second.proto")?)?;
     let paths = vec![in alloc; first, second]?;
@@ -143,6 +149,12 @@ fn walks_over_all_declarations(rt: HostRuntime) -> Result<(), Fail> {
          first.proto .a.more\n\
          first.proto .a.same\n"
     );
+    assert_eq!(rt;
+        lines(alloc, index.services())?.as_str(),
+        "first.proto .a.Items\n\
+         second.proto .a.Late\n\
+         second.proto .a.Empty\n"
+    );
     Ok(())
 }
 
@@ -161,7 +173,7 @@ fn finds_the_first_of_a_name(rt: HostRuntime) -> Result<(), Fail> {
     let index = Index::of(alloc, &files)?;
     let item = index.message(".a.Item").ok_or("absent")?;
     assert_eq!(rt; item.file, "first.proto");
-    assert_eq!(rt; item.descriptor.field.len(), 2);
+    assert_eq!(rt; item.descriptor.field.len(), 5);
     assert_eq!(rt; file_of(index.message(".a.Item.Late")), "second.proto");
     assert_eq!(rt; file_of(index.message("a.Item")), "none");
     assert_eq!(rt; file_of(index.message(".a.Kind")), "none");
@@ -177,6 +189,54 @@ fn finds_the_first_of_a_name(rt: HostRuntime) -> Result<(), Fail> {
     );
     assert_eq!(rt; file_of(index.extension_by_name(".a.id")), "none");
     Ok(())
+}
+
+#[test]
+fn finds_services_and_files(rt: HostRuntime) -> Result<(), Fail> {
+    let alloc = rt.alloc();
+    let files = files(alloc)?;
+    let index = Index::of(alloc, &files)?;
+    assert_eq!(rt; file_of(index.service(".a.Late")), "second.proto");
+    assert_eq!(rt; file_of(index.service(".a.Item")), "none");
+    let go = index.method(".a.Late", "Go").ok_or("absent")?;
+    assert_eq!(rt; go.output_type.as_str(), ".a.Item.Late");
+    assert_eq!(rt; index.method(".a.Items", "Go").is_none(), true);
+    assert_eq!(rt; index.method(".a.None", "Go").is_none(), true);
+    let second = index.file("second.proto").ok_or("absent")?;
+    assert_eq!(rt; second.service.len(), 2);
+    assert_eq!(rt; index.file("third.proto").is_none(), true);
+    Ok(())
+}
+
+#[test]
+fn finds_values_and_oneofs_by_name(rt: HostRuntime) -> Result<(), Fail> {
+    let alloc = rt.alloc();
+    let files = files(alloc)?;
+    let index = Index::of(alloc, &files)?;
+    let crew = index.value_named(".shop.Audience", "CREW").ok_or("absent")?;
+    assert_eq!(rt; crew.number, -1);
+    assert_eq!(rt;
+        index.value_named(".shop.Audience", "GUEST").is_none(),
+        true
+    );
+    assert_eq!(rt; index.value_named(".a.Item", "CREW").is_none(), true);
+    let item = index.message(".a.Item").ok_or("absent")?.descriptor;
+    assert_eq!(rt; oneof_name(&index, item, 1), "none");
+    assert_eq!(rt; oneof_name(&index, item, 2), "one");
+    assert_eq!(rt; oneof_name(&index, item, 3), "one");
+    assert_eq!(rt; oneof_name(&index, item, 4), "other");
+    Ok(())
+}
+
+/// What the oneof is called that the field of that number of `.a.Item` stands in.
+fn oneof_name<'m>(index: &Index<'_>, item: &'m DescriptorProto, number: i32) -> &'m str {
+    match index.field(".a.Item", number) {
+        Some(field) => match oneof_of(item, field) {
+            Some(oneof) => oneof.name.as_str(),
+            None => "none",
+        },
+        None => "no field",
+    }
 }
 
 /// What the field is called that was found.
@@ -229,7 +289,7 @@ fn finds_the_first_of_a_number(rt: HostRuntime) -> Result<(), Fail> {
     );
     assert_eq!(rt; name_of(index.field(".a.Item", 1)), "id");
     assert_eq!(rt; name_of(index.field(".a.Item", 100)), "more");
-    assert_eq!(rt; name_of(index.field(".a.Item", 2)), "none");
+    assert_eq!(rt; name_of(index.field(".a.Item", 9)), "none");
     assert_eq!(rt; name_of(index.field(".a.Item", -1)), "none");
     assert_eq!(rt; name_of(index.field(".a.Kind", 0)), "none");
     assert_eq!(rt; name_of(index.field_read(".shop.Size", &record(1))), "max");

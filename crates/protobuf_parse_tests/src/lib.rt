@@ -9,6 +9,8 @@ mod declared_names;
 #[cfg(test)]
 mod encoding;
 #[cfg(test)]
+mod filling;
+#[cfg(test)]
 mod hashing;
 #[cfg(test)]
 mod indexing;
@@ -26,3 +28,5 @@ mod reading;
 mod registry;
 #[cfg(test)]
 mod sets;
+#[cfg(test)]
+mod spellings;
