@@ -1,5 +1,5 @@
-//! The laws of the definitions that contracts cite, of all crates together. The functions do nothing:
-//! the contract of each is a theorem, and its comment says which.
+//! The laws of the definitions that contracts cite, of all crates together. The functions do
+//! nothing: the contract of each is a theorem, and its comment says which.
 
 ghost use Rattle.protobuf_parse.specs.ApartInRuns.{NumbersAreApartInRuns};
 

@@ -1,4 +1,5 @@
-//! `google/protobuf/api.proto`: what an API of services has: its methods, and others that it takes in.
+//! `google/protobuf/api.proto`: what an API of services has: its methods, and others that it takes
+//! in.
 
 /// The text of the file.
 pub const API: &str = r#"syntax = "proto3";

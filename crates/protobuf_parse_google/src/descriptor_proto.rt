@@ -1,4 +1,5 @@
-//! `google/protobuf/descriptor.proto`: descriptors of files and what they declare, and the messages of options.
+//! `google/protobuf/descriptor.proto`: descriptors of files and what they declare, and the messages
+//! of options.
 
 /// The text of the file.
 pub const DESCRIPTOR: &str = r#"syntax = "proto2";

@@ -1,4 +1,5 @@
-//! `google/protobuf/compiler/plugin.proto`: what `protoc` asks of a generator, and what that answers.
+//! `google/protobuf/compiler/plugin.proto`: what `protoc` asks of a generator, and what that
+//! answers.
 
 /// The text of the file.
 pub const PLUGIN: &str = r#"syntax = "proto2";

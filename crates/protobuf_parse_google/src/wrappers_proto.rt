@@ -1,4 +1,5 @@
-//! `google/protobuf/wrappers.proto`: a message around a value of each scalar type that JSON tells apart.
+//! `google/protobuf/wrappers.proto`: a message around a value of each scalar type that JSON tells
+//! apart.
 
 /// The text of the file.
 pub const WRAPPERS: &str = r#"syntax = "proto3";

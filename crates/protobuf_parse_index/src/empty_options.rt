@@ -1,5 +1,5 @@
-//! Options messages in which nothing is set: each option is `None`, and there are no bytes of custom
-//! options. None takes memory yet.
+//! Options messages in which nothing is set: each option is `None`, and there are no bytes of
+//! custom options. None takes memory yet.
 
 ghost use Rattle.std.specs.Prelude.{◌≡◌};
 ghost use Rattle.protobuf_parse_model.specs.Options.{enum_options_view, enum_value_options_view};

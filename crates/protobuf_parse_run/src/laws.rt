@@ -12,8 +12,8 @@ ghost use Rattle.protobuf_parse_run.specs.TypeNames.{NamesAreReached};
 ghost use Rattle.protobuf_parse_run.specs.Walks.{SeenAreReached};
 
 /// The files of a run in their order (`order`): each that an input reaches, once, and after all
-/// that it imports. No path comes twice (`distinct`). Where no walk of an import tree breaks off, at a
-/// cycle, a chain that is too long or a file without a tree, just those come that the path of an
+/// that it imports. No path comes twice (`distinct`). Where no walk of an import tree breaks off, at
+/// a cycle, a chain that is too long or a file without a tree, just those come that the path of an
 /// input reaches (`reached`), with each all that it reaches (`closed`), and each after all that its
 /// file imports (`after_imports`). So it is in every accepted run (`accepted`). The descriptors of
 /// such a run bear the names of these paths, in order; what each of these files becomes is among
