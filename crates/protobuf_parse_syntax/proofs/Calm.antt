@@ -4,7 +4,8 @@ use Rattle.std.proofs.Common.{◌≡◌, ℕ, zero, suc, ◌<◌, Bool, true, fa
 use Rattle.std.proofs.Common.{refl, sym, ap, subst, ◌∙◌, arith, length}
 use Rattle.protobuf_parse_grammar.specs.Relations.{Nothing, Then, Either, Many, Separated, Unless}
 use Rattle.protobuf_parse_grammar.specs.Relations.{At}
-use Rattle.protobuf_parse_grammar.specs.Readers.{Rest, Read, read, stuck, deep, bind, bind_deep}
+use Rattle.protobuf_parse_grammar.specs.Readers.{Rest, Read, read, stuck, wrong, deep, bind}
+use Rattle.protobuf_parse_grammar.specs.Readers.{bind_deep, all_apart}
 use Rattle.protobuf_parse_grammar.specs.Readers.{Shape, shape, Reader, size, starts, seen_by}
 use Rattle.protobuf_parse_grammar.specs.Combinators as reader
 use Rattle.protobuf_parse_grammar.specs.Combinators.{then_shape, either_shape, many_shape, covers}
@@ -18,6 +19,7 @@ use Rattle.protobuf_parse_lexer.specs.Classes.{Class}
 use Rattle.protobuf_parse_lexer.specs.declared.lexer.token.Place.{Place}
 use Rattle.protobuf_parse_syntax.specs.ClassLaws.{lexicon}
 use Rattle.protobuf_parse_syntax.specs.Readings.{from_first, wrong_from-deep, begun_reader}
+use Rattle.protobuf_parse_syntax.specs.Readings.{refusing_reader}
 use Rattle.protobuf_parse_syntax.proofs.Balance.{Fits, Keeps, Any, weaker, done}
 use Rattle.protobuf_parse_syntax.proofs.Balance as balance
 
@@ -210,6 +212,24 @@ begun {s = s} p some = record {
         let w = whole ts end in
         calm_if (starts lexicon s.firsts w) (p.reader.run w) (stuck w) (p.calm.never ts end fits)
         (not_stuck w) e;
+  };
+  keeps = p.keeps;
+}
+
+pub not_wrong : {A : Type 0} (ts : Rest Lexeme Place) →
+    (let r : Read Lexeme Place A = wrong ts in r ≡ deep) → ⊥
+not_wrong ts e = cc
+
+abbrev pub refusing : {A : Type 0} {n m : ℕ} {R : List Lexeme → A → Type 0} {s : Shape Class}
+    (cs : List Class) → Quiet n m R s → s.empty ≡ false → all_apart lexicon s.firsts cs ≡ true →
+    Quiet n m R s
+refusing cs p some apart = record {
+  reader = refusing_reader cs p.reader some apart;
+  calm = record {
+    never = λ ts end fits e.
+        let w = whole ts end in
+        calm_if (starts lexicon cs w) (wrong w) (p.reader.run w) (not_wrong w)
+        (p.calm.never ts end fits) e;
   };
   keeps = p.keeps;
 }

@@ -12,7 +12,7 @@ use Rattle.protobuf_parse_grammar.specs.Whole.{whole, left_whole, local_stuck, l
 use Rattle.protobuf_parse_grammar.specs.Relations.{StopsAt}
 use Rattle.protobuf_parse_grammar.specs.Whole.{deep_found, deep_only, deep_wrong}
 use Rattle.protobuf_parse_grammar.specs.Whole.{deep_stops, deep_leaves}
-use Rattle.protobuf_parse_lexer.specs.Classes.{symbol, word, float, text, is_one_of, is_floating}
+use Rattle.protobuf_parse_lexer.specs.Classes.{word, text, is_one_of, is_floating}
 use Rattle.protobuf_parse_lexer.specs.Cut.{out_of_memory}
 use Rattle.protobuf_parse_lexer.specs.Cut.{error_place as place_at}
 use Rattle.protobuf_parse_lexer.specs.declared.error.ParserErrorWithLocation.{ParserErrorWithLocation}
@@ -31,12 +31,13 @@ use Rattle.protobuf_parse_syntax.specs.Parsing.{NoTree, StandsAt, TokenAt, IsLar
 use Rattle.protobuf_parse_syntax.specs.Parsing.{BeginsNoConstant, IsLowName, IsLabelWord}
 use Rattle.protobuf_parse_syntax.specs.Parsing.{IsUnlabelled, IsTheWord, IsOtherStatement}
 use Rattle.protobuf_parse_syntax.specs.Parsing.{EndsWithParts, EndsWithImport, SyntaxHead}
-use Rattle.protobuf_parse_syntax.specs.Parsing.{NextPart, Floats, StandsBehind, WrongStrings}
+use Rattle.protobuf_parse_syntax.specs.Parsing.{NextPart, FloatValue, IsFloating, StandsBehind, WrongStrings}
+use Rattle.protobuf_parse_syntax.specs.Parsing.{EndsWithValue}
 use Rattle.protobuf_parse_syntax.specs.Parsing.{SaysNothing, IsGrammarFault}
 use Rattle.protobuf_parse_syntax.specs.Code.{Stands, Says, Tells, Fails, Failure, failed, IsWrong}
 use Rattle.protobuf_parse_syntax.specs.Code.{NoVersion, NoOption, NoPath, NoName, of_path}
 use Rattle.protobuf_parse_syntax.specs.Code.{of_version}
-use Rattle.protobuf_parse_syntax.specs.Code.{SaysNot, SignedFloat, Comes, comes, begins_part}
+use Rattle.protobuf_parse_syntax.specs.Code.{SaysNot, FloatNext, Comes, begins_part}
 use Rattle.protobuf_parse_syntax.specs.Code.{is_end, RefusesFile, error_at, Unfit, FileFails}
 use Rattle.protobuf_parse_syntax.specs.declared.parser.refusal.Refusal.{Refusal}
 use Rattle.protobuf_parse_syntax.specs.declared.parser.refusal.Refusal.TheVariants.{Memory, Fault}
@@ -78,32 +79,22 @@ token_at P ts used m (end n) e h = absurd h
 token_at P ts used m (token t rest) e h =
     stands_at (λ front u back. P u) ts used m t rest e (λ back f. h)
 
-float_next : (used back : List Lexeme) (t : Lexeme) → is_one_of (float ∷ []) t ≡ true
-    → Floats used t back
-float_next used [] t h = h
-float_next used (u ∷ us) t h = inl h
+floating_next : (t : Lexeme) (rest : Rest Lexeme Place) (back : List Lexeme) (m : Place)
+    → FloatNext (token t rest) → rest ≡ whole back m → IsFloating t back
+floating_next t (end n) [] m h e = h
+floating_next t (end n) (u ∷ us) m h e = absurd cc
+floating_next t (token u rest) [] m h e = absurd cc
+floating_next t (token u rest) (v ∷ vs) m (inl h) e = inl h
+floating_next t (token u rest) (v ∷ vs) m (inr h) e = let p : u ≡ v = cc in
+    inr (h.0, subst (λ (x : Lexeme). is_floating x ≡ true) p h.1)
 
 float_at : (ts used : List Lexeme) (m : Place) (after : Rest Lexeme Place)
-    → whole ts m ≡ onto used after → comes (float ∷ []) after ≡ true
-    → StandsAt Floats ts (mark_of place_of after)
-float_at ts used m (end n) e h = absurd cc
-float_at ts used m (token t rest) e h =
-    stands_at Floats ts used m t rest e (λ back f. float_next used back t h)
-
-sign_next : (used back : List Lexeme) (m : Place) (t u : Lexeme) (rest : Rest Lexeme Place)
-    → token u rest ≡ whole back m → is_one_of (symbol 43 ∷ symbol 45 ∷ []) t ≡ true
-    → is_floating u ≡ true → Floats used t back
-sign_next used [] m t u rest e h i = absurd cc
-sign_next used (v ∷ vs) m t u rest e h i = let p : u ≡ v = cc in
-    inr (h, subst (λ (x : Lexeme). is_floating x ≡ true) p i)
-
-sign_at : (ts used : List Lexeme) (m : Place) (after : Rest Lexeme Place)
-    → whole ts m ≡ onto used after → SignedFloat after → StandsAt Floats ts (mark_of place_of after)
-sign_at ts used m (end n) e h = absurd h
-sign_at ts used m (token t (end n)) e h = absurd h
-sign_at ts used m (token t (token u rest)) e h =
-    stands_at Floats ts used m t (token u rest) e
-    (λ back g. sign_next used back m t u rest g h.0 h.1)
+    → whole ts m ≡ onto used after → EndsWithValue used → FloatNext after
+    → StandsAt FloatValue ts (mark_of place_of after)
+float_at ts used m (end n) e ends h = absurd h
+float_at ts used m (token t rest) e ends h =
+    stands_at FloatValue ts used m t rest e
+    (λ back f. (ends, floating_next t rest back m h f))
 
 part_at : (ts used : List Lexeme) (m : Place) (after : Rest Lexeme Place)
     → whole ts m ≡ onto used after → EndsWithParts used → begins_part after ≡ true
@@ -222,13 +213,6 @@ module _ (ts : List Lexeme) (m : Place) (n : ℕ) where
         (steady-near nest.file nest.file-same) refl n ts m k a b enough e w
     only a b (token t rest) e h w = absurd cc
 
-    none_if_stuck : (rest : Rest Lexeme Place) → (nest.files n).low.run (whole ts m) ≡ stuck rest
-        → NoTree ts
-    none_if_stuck rest e t w =
-        no_tree_behind ts m (mark_of place_of rest)
-        (deep_stops (λ i. (nest.file i).low)
-        (steady-near nest.file nest.file-same) refl n ts m rest enough e) t w
-
     none_if_wrong : (rest : Rest Lexeme Place) → (nest.files n).low.run (whole ts m) ≡ wrong rest
         → NoTree ts
     none_if_wrong rest e t w =
@@ -255,8 +239,6 @@ module _ (ts : List Lexeme) (m : Place) (n : ℕ) where
             (stop, token_at IsLowName ts used m after parts s)
         go error.IntegerOverflow stop used parts s =
             (stop, token_at IsLarge ts used m after parts s)
-        go error.FloatConstant stop used parts s =
-            (none_if_stuck after h, float_at ts used m after parts s)
         go _ stop used parts s = absurd s
 
     -- no statement of a body begins with the next token
@@ -335,7 +317,23 @@ module _ (ts : List Lexeme) (m : Place) (n : ℕ) where
             )
 
         option_fault : NoOption e part after → IsGrammarFault ts m e (mark_of place_of after)
-        option_fault (head, name, f, starts, (x, hundred, begins)) =
+        option_fault (head, rest, f, starts, inr (name, front, g, named, (x, inside, next))) =
+            rw x (
+              none,
+              float_at ts used m after parts (
+                before,
+                head,
+                name,
+                front,
+                is ∙ ap (λ (v : List Lexeme). before ++ v)
+                    (f ∙ ap (λ (v : List Lexeme). head ++ v) g),
+                starts,
+                named,
+                inside,
+              )
+                  next,
+            )
+        option_fault (head, name, f, starts, inl (x, hundred, begins)) =
             rw x (
               none,
               part_at ts used m after parts (
@@ -354,12 +352,10 @@ module _ (ts : List Lexeme) (m : Place) (n : ℕ) where
         → whole ts m ≡ onto used after → Says e used after
         → IsGrammarFault ts m e (mark_of place_of after)
     wrong_fault e used after none parts (before, part, is, inl h) =
-        rw (h.0) (none, sign_at ts used m after parts h.1)
-    wrong_fault e used after none parts (before, part, is, inr (inl h)) =
         option_fault e before part used after none parts is h
-    wrong_fault e used after none parts (before, part, is, inr (inr (inl h))) =
+    wrong_fault e used after none parts (before, part, is, inr (inl h)) =
         path_fault e before part used after none parts is h
-    wrong_fault e used after none parts (before, part, is, inr (inr (inr h))) =
+    wrong_fault e used after none parts (before, part, is, inr (inr h)) =
         name_fault e before part used after none parts is h
 
     here_fault : (e : ParserError) (after : Rest Lexeme Place) (f : Failure)

@@ -28,3 +28,4 @@ pub mod Strings
 pub mod Parts
 pub mod PackageNames
 pub mod Texts
+pub mod ConstantFaults

@@ -1,8 +1,10 @@
--- Lists with commas between their items: what was read before an item in which something is wrong.
-use Rattle.std.proofs.Common.{◌≡◌, ◌⊎◌, true, List, [], ◌∷◌, ◌++◌, inl, inr, refl, sym, ap}
+-- Items one after the other, or with commas between them: what was read before one in which
+-- something is wrong.
+use Rattle.std.proofs.Common.{◌≡◌, ◌⊎◌, true, false, List, [], ◌∷◌, ◌++◌, inl, inr, refl, sym, ap}
 use Rattle.std.proofs.Common.{subst, ◌∙◌, append_assoc}
 use Rattle.std.proofs.lemmas.List.{append-nil}
-use Rattle.protobuf_parse_grammar.specs.Loops.{shows_themselves, ends_wrong}
+use Rattle.protobuf_parse_grammar.specs.Combinators.{run_many}
+use Rattle.protobuf_parse_grammar.specs.Loops.{with_rest, shows_themselves, ends_wrong}
 use Rattle.protobuf_parse_grammar.specs.Readers.{Rest, onto, onto-append, Read, read, bind, Shape}
 use Rattle.protobuf_parse_grammar.specs.Readers.{Reader, starts}
 use Rattle.protobuf_parse_grammar.specs.Relations.{Many, none, more}
@@ -158,3 +160,57 @@ module _ {A : Type 0} {R : List Lexeme → A → Type 0} {s : Shape Class}
             (front, k.1, refl, read', k.4),
           ),
         )
+
+-- ---- items without commas
+
+-- Items lie between two places.
+pub record ManyRead {A : Type 0} (R : List Lexeme → A → Type 0) (before now : Rest Lexeme Place) :
+    Type 0 where
+  pub front : List Lexeme
+  pub items : List A
+  pub parts : before ≡ onto front now
+  pub are : Many R front items
+
+pub none_read : {A : Type 0} {R : List Lexeme → A → Type 0} (ts : Rest Lexeme Place)
+    → ManyRead R ts ts
+none_read ts = record { front = []; items = []; parts = refl; are = none }
+
+module _ {A : Type 0} {R : List Lexeme → A → Type 0} {s : Shape Class} (item : Reader lexicon R s)
+  where
+    pub one_more_read : (before now rest : Rest Lexeme Place) (a : A) → ManyRead R before now
+        → item.run now ≡ read a rest → ManyRead R before rest
+    one_more_read before now rest a h e =
+        let l = item.sound now a rest e in
+        record {
+          front = h.front ++ l.used;
+          items = h.items ++ a ∷ [];
+          parts =
+              h.parts ∙ ap (onto h.front) l.parts ∙ sym (onto-append h.front l.used rest);
+          are = many_last h.front l.used h.items a h.are l.holds;
+        }
+
+    -- something is wrong in one
+    pub wrong_one : (some : s.empty ≡ false) (P : Wrongs) (e : Refusal)
+        (ts now after : Rest Lexeme Place) (items : List A) (total : Read Lexeme Place (List A))
+        → starts lexicon s.firsts now ≡ true → ManyRead R ts now
+        → total ≡ with_rest (λ (v : List A). v) (λ (v : List A). v) items (run_many item now)
+        → Fails e after (item.run now) ⊎ IsWrong P now e after (item.run now)
+        → Fails e after total
+        ⊎ IsWrong (Behind (λ us. (as' : List A) × Many R us as') P) ts e after total
+    wrong_one some P e ts now after items total comes all so_far (inl h) =
+        inl (fails item some (λ (v : List A). v) shows_themselves (λ (v : List A). v) items now
+        after e total comes h so_far)
+    wrong_one some P e ts now after items total comes all so_far (inr h) =
+        let w = h.2 in
+        wrong_behind P e now after total (λ us. (as' : List A) × Many R us as') all.front ts
+        all.parts (all.items, all.are)
+        (inr (
+          h.0,
+          h.1,
+          (
+            w.0,
+            ends_wrong item some (λ (v : List A). v) shows_themselves (λ (v : List A). v) items
+                now w.0 total comes w.1 so_far,
+          ),
+          h.3,
+        ))

@@ -19,16 +19,55 @@ use Rattle.protobuf_parse_syntax.specs.Readings.{from_first}
 use Rattle.protobuf_parse_syntax.specs.Productions as parse
 use Rattle.protobuf_parse_syntax.specs.Nested as nest
 use Rattle.protobuf_parse_syntax.specs.Trees as tree
-use Rattle.protobuf_parse_syntax.specs.Trees.{OptionSyntax, TypeSyntax, option_syntax}
+use Rattle.protobuf_parse_syntax.specs.Trees.{OptionSyntax, OptionNameSyntax, TypeSyntax, option_syntax}
 use Rattle.protobuf_parse_syntax.specs.Parsing.{OptionHead}
 use Rattle.protobuf_parse_syntax.specs.Code.{Fails, GivesOr, fails_first, IsWrong, Behind, Says}
-use Rattle.protobuf_parse_syntax.specs.Code.{AreEarlier, IsCommaAlone, IsListFront, LongName}
+use Rattle.protobuf_parse_syntax.specs.Code.{AreEarlier, IsCommaAlone, IsListFront, IsNameHead, InOption}
+use Rattle.protobuf_parse_syntax.specs.Code.{InConstant, LongName}
 use Rattle.protobuf_parse_syntax.specs.declared.parser.refusal.Refusal.{Refusal}
 use Rattle.protobuf_parse_syntax.specs.declared.tree.field.Label.{Label}
 use Rattle.protobuf_parse_syntax.specs.declared.tree.option.ProtobufOption.{ProtobufOption}
 use Rattle.protobuf_parse_syntax.proofs.Lists.{wrong_comma}
 use Rattle.protobuf_parse_syntax.proofs.Wrongs.{fails_from_first, fails_in, behind_both, wrong_as}
 use Rattle.protobuf_parse_syntax.proofs.Wrongs.{wrong_first, wrong_behind}
+
+-- ---- an option
+
+module _ (n : ℕ) (e : Refusal) (ts after : Rest Lexeme Place) where
+  -- its name is none
+  pub wrong_name : Fails e after (parse.option_name.run ts)
+      ⊎ IsWrong LongName ts e after (parse.option_name.run ts)
+      → Fails e after ((nest.assignment n).low.run ts)
+      ⊎ IsWrong InOption ts e after ((nest.assignment n).low.run ts)
+  unfolding nest.assignment
+  wrong_name h =
+      wrong_first InOption e ts after (parse.option_name.run ts) _
+      (wrong_as LongName e ts after (parse.option_name.run ts) InOption (λ x used w. inl w) h)
+
+  -- a float stands in the value
+  pub wrong_value : (us vs : Rest Lexeme Place) (name : OptionNameSyntax)
+      → parse.option_name.run ts ≡ read name us → (parse.symbol 61).run us ≡ read tt vs
+      → Fails e after ((nest.constant n).run vs)
+      ⊎ IsWrong InConstant vs e after ((nest.constant n).run vs)
+      → Fails e after ((nest.assignment n).low.run ts)
+      ⊎ IsWrong InOption ts e after ((nest.assignment n).low.run ts)
+  unfolding nest.assignment
+  wrong_value us vs name is equals h =
+      let a = parse.option_name.sound ts name us is in
+      let b = (parse.symbol 61).sound us tt vs equals in
+      let head : IsNameHead (a.used ++ b.used) = record {
+        value = name;
+        front = a.used;
+        back = b.used;
+        first = a.holds;
+        second = b.holds;
+        parts = refl;
+      } in
+      let parts = a.parts ∙ ap (onto a.used) b.parts ∙ sym (onto-append a.used b.used vs) in
+      wrong_as (Behind IsNameHead InConstant) e ts after _ InOption (λ x used w. inr w)
+      (rw (is, equals)
+      (wrong_behind InConstant e vs after _ IsNameHead (a.used ++ b.used) ts parts head
+      (wrong_first InConstant e vs after ((nest.constant n).run vs) _ h)))
 
 -- ---- an option that is a statement
 
@@ -43,22 +82,22 @@ module _ (n : ℕ) (e : Refusal) (ts after : Rest Lexeme Place) where
       fails_from_first (nest.option_parts n).low e ts after
       (fails_first e after ((parse.word (codes "option")).run ts) _ h)
 
-  says_option : (x : ParserError) (used : List Lexeme) → Behind IsOptionWord LongName x used after
+  says_option : (x : ParserError) (used : List Lexeme) → Behind IsOptionWord InOption x used after
       → Says x used after
-  says_option x used h = ([], used, refl, inr (inl (h.0, h.1, h.2, inl h.3, h.4)))
+  says_option x used h = ([], used, refl, inl (h.0, h.1, h.2, inl h.3, h.4))
 
   pub fails_assignment : (us : Rest Lexeme Place)
       → (parse.word (codes "option")).run ts ≡ read tt us
       → Fails e after ((nest.assignment n).low.run us)
-      ⊎ IsWrong LongName us e after ((nest.assignment n).low.run us)
+      ⊎ IsWrong InOption us e after ((nest.assignment n).low.run us)
       → Fails e after ((nest.option n).low.run ts)
   unfolding nest.option_parts
   fails_assignment us is h =
       let l = (parse.word (codes "option")).sound ts tt us is in
-      fails_in (nest.option_parts n).low (Behind IsOptionWord LongName) e ts after says_option
+      fails_in (nest.option_parts n).low (Behind IsOptionWord InOption) e ts after says_option
       (rw is
-      (wrong_behind LongName e us after _ IsOptionWord l.used ts l.parts l.holds
-      (wrong_first LongName e us after ((nest.assignment n).low.run us) _ h)))
+      (wrong_behind InOption e us after _ IsOptionWord l.used ts l.parts l.holds
+      (wrong_first InOption e us after ((nest.assignment n).low.run us) _ h)))
 
   pub fails_option_end : (us vs : Rest Lexeme Place) (option : OptionSyntax)
       → (parse.word (codes "option")).run ts ≡ read tt us
@@ -90,17 +129,17 @@ module _ (n : ℕ) (e : Refusal) (ts after : Rest Lexeme Place) where
 
   pub fails_bracketed : (us : Rest Lexeme Place) → (parse.symbol 91).run ts ≡ read tt us
       → Fails e after ((nest.assignments n).low.run us)
-      ⊎ IsWrong (Behind (AreEarlier (IsAssignment n)) LongName) us e after
+      ⊎ IsWrong (Behind (AreEarlier (IsAssignment n)) InOption) us e after
       ((nest.assignments n).low.run us)
       → Fails e after ((nest.bracketed_options n).low.run ts)
-      ⊎ IsWrong (Behind (IsListFront n) LongName) ts e after
+      ⊎ IsWrong (Behind (IsListFront n) InOption) ts e after
       ((nest.bracketed_options n).low.run ts)
   unfolding nest.bracketed_options
   fails_bracketed us is h =
       let l = (parse.symbol 91).sound ts tt us is in
-      let inside = Behind (AreEarlier (IsAssignment n)) LongName in
-      wrong_as (Behind IsBracket inside) e ts after _ (Behind (IsListFront n) LongName)
-      (λ x used. behind_both LongName IsBracket (AreEarlier (IsAssignment n)) (IsListFront n)
+      let inside = Behind (AreEarlier (IsAssignment n)) InOption in
+      wrong_as (Behind IsBracket inside) e ts after _ (Behind (IsListFront n) InOption)
+      (λ x used. behind_both InOption IsBracket (AreEarlier (IsAssignment n)) (IsListFront n)
       list_front x used after)
       (rw is
       (wrong_behind inside e us after _ IsBracket l.used ts l.parts l.holds
@@ -109,13 +148,13 @@ module _ (n : ℕ) (e : Refusal) (ts after : Rest Lexeme Place) where
 -- an option that was read behind a comma, or not
 pub comma_option : (n : ℕ) (r : Result ProtobufOption Refusal) (ts us after : Rest Lexeme Place)
     → (parse.symbol 44).run ts ≡ read tt us
-    → GivesOr (IsWrong LongName us) option_syntax r after ((nest.assignment n).low.run us)
-    → GivesOr (IsWrong (Behind IsCommaAlone LongName) ts) option_syntax r after
+    → GivesOr (IsWrong InOption us) option_syntax r after ((nest.assignment n).low.run us)
+    → GivesOr (IsWrong (Behind IsCommaAlone InOption) ts) option_syntax r after
     ((nest.comma_assignment n).low.run ts)
 comma_option n (Ok o) ts us after is h = rw (is, h) refl
 comma_option n (Err e) ts us after is h =
     let l = (parse.symbol 44).sound ts tt us is in
-    wrong_comma (nest.assignment n).low LongName e ts after us l.used l.parts l.holds (rw is refl) h
+    wrong_comma (nest.assignment n).low InOption e ts after us l.used l.parts l.holds (rw is refl) h
 
 -- ---- the options of a field, or of an enum's value
 
@@ -158,10 +197,10 @@ fails_options : {Y : Type 0} {R : List Lexeme → Y → Type 0} {s : Shape Class
     → vs ≡ onto numbered us → IsNumbered number numbered
     → p.run ts ≡ bind ((nest.options n).low.run us) g
     → Fails e after ((nest.options n).low.run us)
-    ⊎ IsWrong (Behind (IsListFront n) LongName) us e after ((nest.options n).low.run us)
+    ⊎ IsWrong (Behind (IsListFront n) InOption) us e after ((nest.options n).low.run us)
     → Fails e after ((from_first p).run ts)
 fails_options p n e ts vs us after before numbered number g parts more is runs h =
-    let in_list = Behind (IsListFront n) LongName in
+    let in_list = Behind (IsListFront n) InOption in
     let behind_number = Behind (IsNumbered number) in_list in
     let r = bind ((nest.options n).low.run us) g in
     fails_in p (Behind AnyTokens behind_number) e ts after
@@ -169,8 +208,8 @@ fails_options p n e ts vs us after before numbered number g parts more is runs h
       w.0,
       w.1,
       w.2,
-      inr (inl (behind_both LongName (IsNumbered number) (IsListFront n) OptionHead
-          (list_head n number) x w.1 after w.4)),
+      inl (behind_both InOption (IsNumbered number) (IsListFront n) OptionHead
+          (list_head n number) x w.1 after w.4),
     ))
     (rw runs
     (wrong_behind behind_number e vs after r AnyTokens before ts parts tt
@@ -199,7 +238,7 @@ module _ (n : ℕ) (e : Refusal) (ts vs ws us after : Rest Lexeme Place) (name :
         → parse.ident.run ts ≡ read name vs → (parse.symbol char.equals).run vs ≡ read tt ws
         → parse.field_number.run ws ≡ read number us
         → Fails e after ((nest.options n).low.run us)
-        ⊎ IsWrong (Behind (IsListFront n) LongName) us e after ((nest.options n).low.run us)
+        ⊎ IsWrong (Behind (IsListFront n) InOption) us e after ((nest.options n).low.run us)
         → Fails e after ((nest.after_type n place label type_).low.run ts)
     unfolding nest.after_type_parts
     fails_field_options place label type_ is eq num h =
@@ -226,7 +265,7 @@ module _ (n : ℕ) (e : Refusal) (ts vs ws us after : Rest Lexeme Place) (name :
         → (parse.symbol char.equals).run vs ≡ read tt ws
         → parse.enum_number.run ws ≡ read number us
         → Fails e after ((nest.options n).low.run us)
-        ⊎ IsWrong (Behind (IsListFront n) LongName) us e after ((nest.options n).low.run us)
+        ⊎ IsWrong (Behind (IsListFront n) InOption) us e after ((nest.options n).low.run us)
         → Fails e after ((nest.enum_value n).low.run ts)
     unfolding nest.enum_value_parts
     fails_value_options is eq num h =

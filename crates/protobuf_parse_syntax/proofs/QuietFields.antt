@@ -9,7 +9,7 @@ use Rattle.protobuf_parse_grammar.specs.Relations.{Separated, Many, Then, somes}
 use Rattle.protobuf_parse_grammar.specs.Whole.{whole}
 use Rattle.protobuf_parse_lexer.specs.Tokens.{Lexeme}
 use Rattle.protobuf_parse_lexer.specs.Classes.{Class, symbol as symbol_class, word as word_class}
-use Rattle.protobuf_parse_lexer.specs.Classes.{ident as ident_class, words, text, is_one_of}
+use Rattle.protobuf_parse_lexer.specs.Classes.{ident as ident_class, words, float, text, is_one_of}
 use Rattle.protobuf_parse_lexer.specs.declared.lexer.token.Place.{Place}
 use Rattle.protobuf_parse_syntax.specs.ClassLaws.{lexicon}
 use Rattle.protobuf_parse_syntax.specs.Grammar.{ConstantOf, IsAssignment, IsConstant, IsComma}
@@ -33,7 +33,7 @@ use Rattle.protobuf_parse_grammar.specs.Relations.{Unless}
 use Rattle.protobuf_parse_syntax.proofs.Balance.{fits-now, opening, closing}
 use Rattle.protobuf_parse_syntax.proofs.Calm.{Calm, Quiet, flat, give, ◌>>=◌, ◌>>◌, choose, shaped}
 use Rattle.protobuf_parse_syntax.proofs.Calm.{unless, at, many, separated, from_start, begun}
-use Rattle.protobuf_parse_syntax.proofs.Calm.{as_reader, any}
+use Rattle.protobuf_parse_syntax.proofs.Calm.{as_reader, any, refusing}
 use Rattle.protobuf_parse_syntax.specs.Trees as tree
 use Rattle.protobuf_parse_syntax.specs.Nested as nest
 use Rattle.protobuf_parse_syntax.specs.Productions as part
@@ -107,6 +107,14 @@ constants_of p =
     (symbol_class char.dot ∷ text ∷ symbol_class char.comma ∷ []))
     (separated (flat (part.symbol char.comma) refl (balance.symbol char.comma refl)) refl p) refl
 
+unfoldable pub items_of : {n : ℕ} {R : List Lexeme → ConstantSyntax → Type 0} →
+    Quiet n n R nest.constant_shape →
+    Quiet n n (Separated IsComma R) (nested nest.item_firsts false
+    (symbol_class char.dot ∷ text ∷ symbol_class char.comma ∷ []))
+items_of p =
+    shaped (nested nest.item_firsts false
+    (symbol_class char.dot ∷ text ∷ symbol_class char.comma ∷ [])) (constants_of p) refl
+
 unfoldable pub list_of : {n : ℕ} {R : List Lexeme → ConstantSyntax → Type 0} →
     Quiet (suc n) (suc n) R nest.constant_shape →
     Quiet n n (ListOf R) (nested (symbol_class char.open_bracket ∷ []) false [])
@@ -114,7 +122,7 @@ unfolding ListOf
 list_of p =
     shaped (nested (symbol_class char.open_bracket ∷ []) false []) (do
       flat (part.symbol char.open_bracket) refl (opening char.open_bracket refl refl)
-      items ← choose (constants_of p) refl (give [])
+      items ← choose (items_of p) refl (give [])
       flat (part.symbol char.close_bracket) refl (closing char.close_bracket refl refl)
       give (tree.list (tree.constants items))) refl
 
@@ -122,18 +130,19 @@ unfoldable pub constant_of : {n : ℕ} {R : List Lexeme → ConstantSyntax → T
     Quiet (suc n) (suc n) R nest.constant_shape → Quiet n n (ConstantOf R) nest.constant_shape
 unfolding ConstantOf
 constant_of p = shaped nest.constant_shape
+    (refusing (float ∷ [])
     (choose (message_constant_of p) refl
     (choose (list_of p) refl
     (choose (flat part.word_constant refl keeps.word_constant) refl
     (choose (do n ← flat part.signed refl keeps.integer; give (tree.integer n)) refl
-    (do s ← flat part.str refl keeps.str; give (tree.string s)))))) refl
+    (do s ← flat part.str refl keeps.str; give (tree.string s)))))) refl refl) refl
 
 constant_is : (d n : ℕ) {R : List Lexeme → ConstantSyntax → Type 0} (h : 0 ≤ d)
     (q : Quiet (suc n) (suc n) R nest.constant_shape) (ts : Rest Lexeme Place) →
     (nest.constant_of d 0 h R R (both q.reader)).low.run ts ≡ (constant_of q).reader.run ts
 unfolding constant_of message_constant_of constant_fields_of constant_field_of value_of list_of
-    constants_of nest.constant_of nest.message_constant_of nest.constant_fields_of
-    nest.constant_field_of nest.value_of nest.list_of nest.constants_of
+    items_of constants_of nest.constant_of nest.message_constant_of nest.constant_fields_of
+    nest.constant_field_of nest.value_of nest.list_of nest.items_of nest.constants_of
 constant_is d n h q ts = refl
 
 pub constant_calm : (d n : ℕ) → 101 ≤ n + d → Calm n (nest.constant d).run

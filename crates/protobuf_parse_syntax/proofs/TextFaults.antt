@@ -65,7 +65,7 @@ module _ (e : Refusal) (ts us after : Rest Lexeme Place)
   says_name x used h =
       let n = behind_both (Unsaid of_text) IsReservedWord (AreEarlier IsReservedName) IsReservedHead
       head_of x used after h in
-      ([], used, refl, inr (inr (inr n)))
+      ([], used, refl, inr (inr n))
 
   pub fails_reserved_items : Fails e after (parse.reserved_items.run us)
       ⊎ IsWrong (Behind (AreEarlier IsReservedName) (Unsaid of_text)) us e after
@@ -101,7 +101,7 @@ module _ (e : Refusal) (ts us vs after : Rest Lexeme Place) (vis : ImportVis)
   unfolding parse.import_parts
   fails_import_path h =
       fails_in parse.import_parts NoPath e ts after
-      (λ x used n. ([], used, refl, inr (inr (inl n))))
+      (λ x used n. ([], used, refl, inr (inl n)))
       (rw (is, seen)
       (wrong_behind (Unsaid of_path) e vs after _ IsImportHead its_head.used ts its_head.parts
       (vis, its_head.holds)

@@ -1,6 +1,7 @@
 -- What is wrong in a part: in its first part, or behind what stands before it; and from the first
 -- token of a statement on.
-use Rattle.std.proofs.Common.{◌≡◌, List, ◌++◌, ◌⊎◌, refl, sym, ap, ◌∙◌, inl, inr, append_assoc}
+use Rattle.std.proofs.Common.{◌≡◌, List, ◌++◌, ◌⊎◌, Result, Ok, Err, refl, sym, ap, subst, ◌∙◌}
+use Rattle.std.proofs.Common.{inl, inr, append_assoc}
 use Rattle.protobuf_parse_grammar.specs.Readers.{Rest, onto, onto-append, Read, wrong, bind}
 use Rattle.protobuf_parse_grammar.specs.Readers.{Shape, Reader}
 use Rattle.protobuf_parse_grammar.specs.Whole.{local_wrong}
@@ -10,7 +11,7 @@ use Rattle.protobuf_parse_lexer.specs.declared.lexer.token.Place.{Place}
 use Rattle.protobuf_parse_lexer.specs.declared.error.ParserError.{ParserError}
 use Rattle.protobuf_parse_syntax.specs.ClassLaws.{lexicon}
 use Rattle.protobuf_parse_syntax.specs.Readings.{from_first, wrong_from}
-use Rattle.protobuf_parse_syntax.specs.Code.{Wrongs, Behind, Says, IsWrong}
+use Rattle.protobuf_parse_syntax.specs.Code.{Wrongs, Behind, Says, IsWrong, Gives, GivesOr}
 use Rattle.protobuf_parse_syntax.specs.Code.{off, too_deep, failed, Fails, fails_first}
 use Rattle.protobuf_parse_syntax.specs.declared.parser.refusal.Refusal.{Refusal}
 use Rattle.protobuf_parse_syntax.specs.declared.parser.refusal.Refusal.TheVariants.{Memory, Fault}
@@ -81,6 +82,20 @@ module _ {Y : Type 0} (P : Wrongs) (e : Refusal) (ts after : Rest Lexeme Place)
           (used, w.0, refl, is, w.2),
         ),
       )
+
+-- what a function gives of a part, it gives of one that reads the same
+pub gives_as : {X Y : Type 0} (P : Wrongs) (before : Rest Lexeme Place) (view : X → Y)
+    (x : Result X Refusal) (after : Rest Lexeme Place) (r q : Read Lexeme Place Y) → q ≡ r
+    → GivesOr (IsWrong P before) view x after r → GivesOr (IsWrong P before) view x after q
+gives_as {Y = Y} P before view x after r q e h =
+    subst (λ (v : Read Lexeme Place Y). GivesOr (IsWrong P before) view x after v) (sym e) h
+
+-- or refuses it as one in which nothing is wrong
+pub gives_too : {X Y : Type 0} (P : Wrongs) (before : Rest Lexeme Place) (view : X → Y)
+    (x : Result X Refusal) (after : Rest Lexeme Place) (r : Read Lexeme Place Y)
+    → Gives view x after r → GivesOr (IsWrong P before) view x after r
+gives_too P before view (Ok x) after r h = h
+gives_too P before view (Err e) after r h = inl h
 
 -- ---- a part that is wrong from its first token on
 

@@ -22,13 +22,16 @@ use Rattle.protobuf_parse_lexer.specs.declared.error.ParserErrorWithLocation.{Pa
 use Rattle.protobuf_parse_lexer.specs.declared.error.ParserError.TheVariants as error
 use Rattle.protobuf_parse_lexer.specs.declared.lexer.str_lit.StrLitDecodeError.{StrLitDecodeError}
 use Rattle.protobuf_parse_lexer.specs.declared.lexer.str_lit.StrLitDecodeError.TheVariants as decoding
-use Rattle.protobuf_parse_syntax.specs.Trees.{Pieces, OptionSyntax}
-use Rattle.protobuf_parse_syntax.specs.Grammar.{any_ident, IsComma}
+use Rattle.protobuf_parse_syntax.specs.Trees.{Pieces, OptionSyntax, ConstantNameSyntax}
+use Rattle.protobuf_parse_syntax.specs.Trees.{ConstantFieldSyntax}
+use Rattle.protobuf_parse_syntax.specs.Grammar.{any_ident, IsComma, IsSymbol, IsConstantName}
+use Rattle.protobuf_parse_syntax.specs.Grammar.{ConstantFieldOf, IsConstant}
 use Rattle.protobuf_parse_syntax.specs.Parsing.{IsLarge, SaysNothing, HundredParts, OptionHead}
 use Rattle.protobuf_parse_syntax.specs.Parsing.{ImportHead, SyntaxHead, ReservedHead, IsEarlier}
 use Rattle.protobuf_parse_syntax.specs.Parsing.{ListFront, IsGrammarFault, BeginsNoConstant}
 use Rattle.protobuf_parse_syntax.specs.Parsing.{IsLabelWord, IsUnlabelled, IsLowName, IsTheWord}
-use Rattle.protobuf_parse_syntax.specs.Parsing.{IsOtherStatement}
+use Rattle.protobuf_parse_syntax.specs.Parsing.{IsOtherStatement, ConstantFront, BeginsWith}
+use Rattle.protobuf_parse_syntax.specs.Parsing.{NameHead}
 use Rattle.protobuf_parse_syntax.specs.Productions as parse
 use Rattle.protobuf_parse_syntax.specs.declared.tree.ImportVis.{ImportVis}
 use Rattle.protobuf_parse_syntax.specs.declared.tree.Syntax.{Syntax}
@@ -73,6 +76,14 @@ abbrev pub Comes : (Lexeme → Type 0) → Rest Lexeme Place → Type 0
 Comes P (end m) = ⊥
 Comes P (token t rest) = P t
 
+-- a float comes next; or a sign, and a float, `inf` or `nan` second
+abbrev pub FloatNext : Rest Lexeme Place → Type 0
+FloatNext (end m) = ⊥
+FloatNext (token t (end m)) = is_one_of (float ∷ []) t ≡ true
+FloatNext (token t (token u rest)) =
+    (is_one_of (float ∷ []) t ≡ true)
+    ⊎ ((is_one_of (symbol char.plus ∷ symbol char.minus ∷ []) t ≡ true) × (is_floating u ≡ true))
+
 -- a float, `inf` or `nan` comes second
 abbrev pub floats_second : Rest Lexeme Place → Bool
 floats_second (token t (token u rest)) = is_floating u
@@ -82,13 +93,6 @@ floats_second _ = false
 abbrev pub next_ident : Rest Lexeme Place → Option Bytes
 next_ident (end m) = None
 next_ident (token t rest) = any_ident t
-
--- a sign comes next, and a float, `inf` or `nan` second
-abbrev pub SignedFloat : Rest Lexeme Place → Type 0
-SignedFloat (token t (token u rest)) =
-    (is_one_of (symbol char.plus ∷ symbol char.minus ∷ []) t ≡ true)
-    × (is_floating u ≡ true)
-SignedFloat _ = ⊥
 
 -- strings come next that say nothing
 abbrev pub SaysNot : ParserError → Rest Lexeme Place → Type 0
@@ -105,7 +109,6 @@ Stands error.IncorrectInput after = Unit {0}
 Stands error.ExpectConstant after = Comes BeginsNoConstant after
 Stands error.GroupNameShouldStartWithUpperCase after = Comes IsLowName after
 Stands error.IntegerOverflow after = Comes IsLarge after
-Stands error.FloatConstant after = comes (float ∷ []) after ≡ true
 Stands _ after = ⊥
 
 -- The next token is refused, whatever it is.
@@ -155,6 +158,40 @@ AreEarlier {A = A} R ts = (earlier : List A) × Many (IsEarlier R) ts earlier
 abbrev pub IsCommaAlone : List Lexeme → Type 0
 IsCommaAlone ts = IsComma ts tt
 
+-- a colon
+abbrev pub IsColon : List Lexeme → Type 0
+IsColon ts = IsSymbol char.colon ts tt
+
+-- A float stands where a constant begins, or where one inside of it does.
+abbrev pub InConstant : Wrongs
+InConstant e used after =
+    (e ≡ error.FloatConstant) × ConstantFront used × FloatNext after
+
+-- in the value of a field of a message constant, behind a colon or behind none
+abbrev pub InValue : Wrongs
+InValue e used after = Behind IsColon InConstant e used after
+    ⊎ (BeginsWith (symbol char.open_brace ∷ []) used × InConstant e used after)
+
+-- the name of such a field
+abbrev pub IsFieldName : List Lexeme → Type 0
+IsFieldName ts = (name : ConstantNameSyntax) × IsConstantName ts name
+
+-- in such a field
+abbrev pub InField : Wrongs
+InField = Behind IsFieldName InValue
+
+-- fields of a message constant
+abbrev pub AreFields : ℕ → List Lexeme → Type 0
+AreFields n ts = (fields : List ConstantFieldSyntax) × Many (ConstantFieldOf (IsConstant n)) ts fields
+
+-- an option's name and the `=` behind it
+abbrev pub IsNameHead : List Lexeme → Type 0
+IsNameHead ts = NameHead ts tt
+
+-- what is wrong in an option: its name is too long, or a float stands in its value
+abbrev pub InOption : Wrongs
+InOption e used after = LongName e used after ⊎ Behind IsNameHead InConstant e used after
+
 -- with what statements begin in which something may be wrong: `syntax`, an import, reserved names,
 -- and options in brackets
 abbrev pub IsSyntaxHead : List Lexeme → Type 0
@@ -180,14 +217,13 @@ abbrev pub NoName : Wrongs
 NoName = Behind IsReservedHead (Unsaid of_text)
 
 abbrev pub NoOption : Wrongs
-NoOption = Behind OptionHead LongName
+NoOption = Behind OptionHead InOption
 
 -- What a fault of the part that begins next says of it, and of the tokens before it: they end with
 -- the head of a statement.
 abbrev pub Says : Wrongs
 Says e used after = (before : List Lexeme) × (part : List Lexeme) × (used ≡ before ++ part)
-    × (((e ≡ error.FloatConstant) × SignedFloat after)
-    ⊎ NoOption e part after ⊎ NoPath e part after ⊎ NoName e part after)
+    × (NoOption e part after ⊎ NoPath e part after ⊎ NoName e part after)
 
 -- what such a fault says of why nothing is read
 abbrev pub Tells : ParserError → Rest Lexeme Place → Failure → Type 0

@@ -43,7 +43,7 @@ unfoldable pub use Rattle.protobuf_parse_syntax.specs.NestedFields.{after_label,
 unfoldable pub use Rattle.protobuf_parse_syntax.specs.NestedFields.{constant_field_of}
 unfoldable pub use Rattle.protobuf_parse_syntax.specs.NestedFields.{constant_fields_of}
 unfoldable pub use Rattle.protobuf_parse_syntax.specs.NestedFields.{message_constant_of}
-unfoldable pub use Rattle.protobuf_parse_syntax.specs.NestedFields.{constants_of, list_of}
+unfoldable pub use Rattle.protobuf_parse_syntax.specs.NestedFields.{constants_of, items_of, list_of}
 unfoldable pub use Rattle.protobuf_parse_syntax.specs.NestedFields.{constant_of, map_of, type_of}
 unfoldable pub use Rattle.protobuf_parse_syntax.specs.NestedFields.{assignment, option_parts}
 unfoldable pub use Rattle.protobuf_parse_syntax.specs.NestedFields.{bracketed_options}
@@ -52,6 +52,7 @@ unfoldable pub use Rattle.protobuf_parse_syntax.specs.NestedFields.{map_field, f
 pub use Rattle.protobuf_parse_syntax.specs.NestedFields.{Parts, item, statements, option, options}
 pub use Rattle.protobuf_parse_syntax.specs.NestedFields.{field_shape, self, step-le, field}
 pub use Rattle.protobuf_parse_syntax.specs.NestedFields.{near_field, fields, constant_firsts}
+pub use Rattle.protobuf_parse_syntax.specs.NestedFields.{item_firsts}
 pub use Rattle.protobuf_parse_syntax.specs.NestedFields.{constant_shape, constant_field_shape}
 pub use Rattle.protobuf_parse_syntax.specs.NestedFields.{ValueOf, constant_fields_shape, constant}
 pub use Rattle.protobuf_parse_syntax.specs.NestedFields.{constant_in, constant_zero, constant_more}

@@ -15,7 +15,7 @@ use Rattle.protobuf_parse_grammar.specs.Pairs.{unless, separated, at, both, none
 use Rattle.protobuf_parse_grammar.specs.Pairs.{level-zero, level-suc, levels, ◌>>=◌, ◌>>◌}
 use Rattle.protobuf_parse_lexer.specs.Tokens.{Lexeme}
 use Rattle.protobuf_parse_lexer.specs.Classes.{Class, symbol as symbol_class, word as word_class}
-use Rattle.protobuf_parse_lexer.specs.Classes.{ident as ident_class, integer, text, words}
+use Rattle.protobuf_parse_lexer.specs.Classes.{ident as ident_class, integer, float, text, words}
 use Rattle.protobuf_parse_lexer.specs.Classes.{is_one_of}
 use Rattle.protobuf_parse_lexer.specs.declared.lexer.token.Place.{Place}
 use Rattle.protobuf_parse_syntax.specs.Trees as tree
@@ -25,7 +25,7 @@ use Rattle.protobuf_parse_syntax.specs.ClassLaws.{lexicon}
 use Rattle.protobuf_parse_syntax.specs.Productions.{Parses, symbol, word, ident, capital, one_of}
 use Rattle.protobuf_parse_syntax.specs.Productions.{str, name, signed, constant_name, field_end}
 use Rattle.protobuf_parse_syntax.specs.Productions.{word_constant, field_number, option_name}
-use Rattle.protobuf_parse_syntax.specs.Readings.{steady, begun, from_start}
+use Rattle.protobuf_parse_syntax.specs.Readings.{steady, begun, from_start, refusing}
 use Rattle.protobuf_parse_syntax.specs.Grammar.{IsSymbol, table_words, other_constants, labels}
 use Rattle.protobuf_parse_syntax.specs.Grammar.{labels3, scalars, statement_words, Item, Statements}
 use Rattle.protobuf_parse_syntax.specs.Grammar.{Braced, ConstantFieldOf, MessageConstantOf, ListOf}
@@ -116,6 +116,18 @@ constants_of p =
     (symbol_class char.dot ∷ text ∷ symbol_class char.comma ∷ []))
     (separated (symbol char.comma) refl refl p) refl
 
+-- with what a list goes on behind its bracket, if it is not empty: a float is told there
+abbrev pub item_firsts : List Class
+item_firsts = constant_firsts ++ float ∷ []
+
+unfoldable pub items_of : {R R' : List Lexeme → ConstantSyntax → Type 0} {k : ℕ}
+    → Parts R R' constant_shape k
+    → Parts (Separated IsComma R) (Separated IsComma R')
+    (nested item_firsts false (symbol_class char.dot ∷ text ∷ symbol_class char.comma ∷ [])) k
+items_of p =
+    shaped (nested item_firsts false
+    (symbol_class char.dot ∷ text ∷ symbol_class char.comma ∷ [])) (constants_of p) refl
+
 unfoldable pub list_of : {R R' : List Lexeme → ConstantSyntax → Type 0} {k : ℕ}
     → Parts R R' constant_shape k
     → Parts (ListOf R) (ListOf R') (nested (symbol_class char.open_bracket ∷ []) false []) (suc k)
@@ -123,7 +135,7 @@ unfolding ListOf
 list_of p =
     shaped (nested (symbol_class char.open_bracket ∷ []) false [])
     (behind (symbol char.open_bracket) refl refl (do
-      items ← choose (constants_of p) refl (give [])
+      items ← choose (items_of p) refl (give [])
       same (symbol char.close_bracket) refl
       give (tree.list (tree.constants items)))) refl
 
@@ -131,11 +143,12 @@ unfoldable pub constant_of : (n k : ℕ) → k ≤ n → (R R' : List Lexeme →
     → Parts R R' constant_shape k → Parts (ConstantOf R) (ConstantOf R') constant_shape (suc k)
 unfolding ConstantOf
 constant_of n k h R R' p = shaped constant_shape
+    (refusing (float ∷ [])
     (choose (message_constant_of p) refl
     (choose (list_of p) refl
     (choose (same word_constant refl) refl
     (choose (do n ← same signed refl; give (tree.integer n)) refl
-    (do s ← same str refl; give (tree.string s)))))) refl
+    (do s ← same str refl; give (tree.string s)))))) refl refl) refl
 
 abbrev pub constant : (n : ℕ) → Parses (IsConstant n) constant_shape
 constant = level refl constant_of
@@ -157,7 +170,7 @@ constant_more n ts h =
 
 pub near_constant : (n : ℕ) → Near n (constant n).run (constant (suc n)).run
 unfolding constant_of message_constant_of constant_fields_of constant_field_of value_of list_of
-    constants_of
+    items_of constants_of
 near_constant = levels refl constant_of (λ n k h R R' t ts. refl) (λ n k h R R' t ts. refl)
 
 -- constants of so many levels and of one more

@@ -9,7 +9,7 @@ use Rattle.protobuf_parse_lexer.specs.Text.{Bytes}
 use Rattle.protobuf_parse_base.specs.Characters as char
 use Rattle.protobuf_parse_lexer.specs.Tokens.{Lexeme}
 use Rattle.protobuf_parse_lexer.specs.Cut.{Stream, HasTokens, IsRefused, out_of_memory, located}
-use Rattle.protobuf_parse_lexer.specs.Classes.{symbol, word, words, ident, float}
+use Rattle.protobuf_parse_lexer.specs.Classes.{Class, symbol, word, words, ident, float}
 use Rattle.protobuf_parse_lexer.specs.Classes.{text as string_token, is_one_of, is_floating}
 use Rattle.protobuf_parse_lexer.specs.Tokens.{StandsFor}
 use Rattle.protobuf_parse_lexer.specs.declared.error.ParserError.{ParserError}
@@ -19,10 +19,13 @@ use Rattle.protobuf_parse_lexer.specs.declared.lexer.token.Place.{Place}
 use Rattle.protobuf_parse_lexer.specs.declared.lexer.token.TokenKind.{TokenKind}
 use Rattle.protobuf_parse_lexer.specs.declared.lexer.token.TokenKind.TheVariants as kind
 use Rattle.protobuf_parse_syntax.specs.Trees.{Pieces, OptionPartSyntax, OptionSyntax, FileSyntax}
+use Rattle.protobuf_parse_syntax.specs.Trees.{ConstantSyntax, ConstantNameSyntax}
 use Rattle.protobuf_parse_syntax.specs.Grammar.{IsWord, IsSymbol, IsComma, IsOptionPart, IsNextPart}
 use Rattle.protobuf_parse_syntax.specs.Grammar.{IsAssignment, IsEnumNumber, IsVisibility}
 use Rattle.protobuf_parse_syntax.specs.Grammar.{IsReservedName, IsStr, IsFile, name_of, place_of}
 use Rattle.protobuf_parse_syntax.specs.Grammar.{other_constants, labels, table_words, IsSyntax}
+use Rattle.protobuf_parse_syntax.specs.Grammar.{IsOptionName, IsConstant, ConstantFieldOf}
+use Rattle.protobuf_parse_syntax.specs.Grammar.{IsConstantName}
 use Rattle.protobuf_parse_syntax.specs.Grammar.{statement_words, capital_ident}
 use Rattle.protobuf_parse_syntax.specs.declared.tree.ImportVis.{ImportVis}
 use Rattle.protobuf_parse_syntax.specs.declared.tree.Syntax.{Syntax}
@@ -132,12 +135,60 @@ abbrev pub NextPart : List Lexeme → Lexeme → List Lexeme → Type 0
 NextPart front t back =
     EndsWithParts front × (is_one_of (ident [] ∷ symbol char.open_paren ∷ []) t ≡ true)
 
+-- an option's name, and the `=` behind it
+abbrev pub NameHead : Rel Lexeme (Unit {0})
+NameHead = do name ← IsOptionName; IsSymbol char.equals
+
+-- The bracket that opens a list of constants, which nest in so many levels, and those that stand
+-- before one of them.
+abbrev pub ItemHead : ℕ → Rel Lexeme (List ConstantSyntax)
+ItemHead n = do IsSymbol char.open_bracket; Many (IsEarlier (IsConstant n))
+
+-- The brace that opens a message constant, whole fields, and the name of one more.
+abbrev pub FieldHead : ℕ → Rel Lexeme ConstantNameSyntax
+FieldHead n = do
+  IsSymbol char.open_brace
+  fields ← Many (ConstantFieldOf (IsConstant n))
+  IsConstantName
+
+-- these, and a colon
+abbrev pub ColonHead : ℕ → Rel Lexeme (Unit {0})
+ColonHead n = do name ← FieldHead n; IsSymbol char.colon
+
+-- the first token is one of these
+abbrev pub BeginsWith : List Class → List Lexeme → Type 0
+BeginsWith cs [] = ⊥
+BeginsWith cs (t ∷ ts) = is_one_of cs t ≡ true
+
+-- From the first token of a constant on, what stands before one that is inside of it, however deep;
+-- nothing stands before the constant itself. Without a colon a field's value is a message constant.
+pub data ConstantFront : List Lexeme → Type 0 where
+  nothing : ConstantFront []
+  in_list : (n : ℕ) (ts us : List Lexeme) (earlier : List ConstantSyntax) → ItemHead n ts earlier
+      → ConstantFront us → ConstantFront (ts ++ us)
+  in_field : (n : ℕ) (ts us : List Lexeme) → ColonHead n ts tt → ConstantFront us
+      → ConstantFront (ts ++ us)
+  in_message : (n : ℕ) (ts us : List Lexeme) (name : ConstantNameSyntax) → FieldHead n ts name
+      → BeginsWith (symbol char.open_brace ∷ []) us → ConstantFront us → ConstantFront (ts ++ us)
+
+-- The tokens end with what a constant of an option stands behind: what the option begins behind,
+-- its name and `=`, and what stands before the constant in the option's value.
+abbrev pub EndsWithValue : List Lexeme → Type 0
+EndsWithValue ts =
+    (before : List Lexeme) × (head : List Lexeme) × (name : List Lexeme) × (front : List Lexeme)
+    × (ts ≡ before ++ (head ++ (name ++ front))) × OptionHead head × NameHead name tt
+    × ConstantFront front
+
 -- a float; or a sign, and a float, `inf` or `nan` behind it
-abbrev pub Floats : List Lexeme → Lexeme → List Lexeme → Type 0
-Floats front t [] = is_one_of (float ∷ []) t ≡ true
-Floats front t (u ∷ back) =
+abbrev pub IsFloating : Lexeme → List Lexeme → Type 0
+IsFloating t [] = is_one_of (float ∷ []) t ≡ true
+IsFloating t (u ∷ back) =
     (is_one_of (float ∷ []) t ≡ true)
     ⊎ ((is_one_of (symbol char.plus ∷ symbol char.minus ∷ []) t ≡ true) × (is_floating u ≡ true))
+
+-- such a token where a constant begins
+abbrev pub FloatValue : List Lexeme → Lexeme → List Lexeme → Type 0
+FloatValue front t back = EndsWithValue front × IsFloating t back
 
 -- Why neighbouring strings say nothing that may stand there: they stand for a text that is no
 -- version (S10), for no text at all (S15), or for a text that has this fault as a proto path (S19).
@@ -219,7 +270,7 @@ IsGrammarFault ts last error.OnlyFieldsInGroup place =
 IsGrammarFault ts last error.IntegerOverflow place =
     StopsAt place_of IsFile ts last place × TokenAt IsLarge ts place
 IsGrammarFault ts last error.OptionNameTooLong place = NoTree ts × StandsAt NextPart ts place
-IsGrammarFault ts last error.FloatConstant place = NoTree ts × StandsAt Floats ts place
+IsGrammarFault ts last error.FloatConstant place = NoTree ts × StandsAt FloatValue ts place
 IsGrammarFault ts last error.UnknownSyntax place =
     NoTree ts × StandsAt (WrongStrings error.UnknownSyntax) ts place
 IsGrammarFault ts last error.StrLitDecode place =

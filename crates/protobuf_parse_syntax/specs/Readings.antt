@@ -1,7 +1,8 @@
 -- No public clause rests on this file.
--- Readers that the grammar of this language needs beside those of base: of what is nowhere, of a
--- relation said otherwise, of a part that is looked at only where it can begin, of one that is
--- wrong from its first token on, of a value that is found by a test, and of at most so many parts.
+-- Readers that the grammar of this language needs beside those of the grammar crate: of what is
+-- nowhere, of a relation said otherwise, of a part that is looked at only where it can begin, of one
+-- that is wrong from its first token on or at some tokens, of a value that is found by a test, and
+-- of at most so many parts.
 use Rattle.std.proofs.Common.{◌≡◌, ◌≤◌, ℕ, suc, List, [], ◌∷◌, ◌++◌, length, Option, Some, Bool}
 use Rattle.std.proofs.Common.{true, false, cond, refl, sym, ap, subst, ◌∙◌, inl, inr, arith}
 use Rattle.std.proofs.lemmas.List.{append-nil}
@@ -10,9 +11,11 @@ use Rattle.protobuf_parse_grammar.specs.Relations.{more, ◌>>=◌}
 use Rattle.protobuf_parse_grammar.specs.Restrictions.{Meant}
 use Rattle.protobuf_parse_grammar.specs.Readers.{Rest, end, token, onto, Read, read, stuck, wrong}
 use Rattle.protobuf_parse_grammar.specs.Readers.{Lexicon, Shape, shape, Sound, Reader, LocalAt}
-use Rattle.protobuf_parse_grammar.specs.Readers.{LocalStuck, starts, deep}
-use Rattle.protobuf_parse_grammar.specs.Combinators.{run_choose, choose-local}
-use Rattle.protobuf_parse_grammar.specs.Readers.{begins-starts, stuck_not_read}
+use Rattle.protobuf_parse_grammar.specs.Readers.{LocalStuck, starts, deep, all_apart}
+use Rattle.protobuf_parse_grammar.specs.Combinators.{run_choose, choose-local, pick}
+use Rattle.protobuf_parse_grammar.specs.Combinators.{pick-local-at}
+use Rattle.protobuf_parse_grammar.specs.Readers.{begins-starts, begins-apart, starts-next}
+use Rattle.protobuf_parse_grammar.specs.Readers.{stuck_not_read}
 use Rattle.protobuf_parse_grammar.specs.Conditions.{meant}
 use Rattle.protobuf_parse_grammar.specs.Depth.{Near, NearAt, near-choose, near_same}
 use Rattle.protobuf_parse_grammar.specs.Pairs.{Pair}
@@ -151,6 +154,53 @@ module _ {Tok Mark Class A : Type 0} {L : Lexicon Tok Mark Class} {R : List Tok 
     complete = from_first-complete;
     begins = p.begins;
     shallow = λ n ts e. p.shallow n ts (wrong_from-deep ts (p.run ts) e);
+  }
+
+-- ---- a part that is wrong at some tokens
+
+module _ {Tok Mark Class A : Type 0} {L : Lexicon Tok Mark Class} {R : List Tok → A → Type 0}
+    {s : Shape Class} (cs : List Class) (p : Reader L R s) where
+  abbrev pub run_refusing : Rest Tok Mark → Read Tok Mark A
+  run_refusing ts = pick (starts L cs) wrong p.run ts
+
+  pub refusing-local : (ts : Rest Tok Mark) → LocalAt run_refusing ts (run_refusing ts)
+  refusing-local ts =
+      pick-local-at (starts L cs) (λ us vs h. starts-next L cs vs us h) wrong p.run ts
+      (starts L cs ts) refl ([], refl) (p.local ts)
+
+  pub refusing-sound : (ts : Rest Tok Mark) (a : A) (rest : Rest Tok Mark)
+      → run_refusing ts ≡ read a rest → Sound R ts a rest
+  refusing-sound ts a rest e = go (starts L cs ts) e
+    where
+      go : (b : Bool) → cond b (wrong ts) (p.run ts) ≡ read a rest → Sound R ts a rest
+      go true e = absurd cc
+      go false e = p.sound ts a rest e
+
+  pub refusing-shallow : s.nests ≡ false → (ts : Rest Tok Mark) → run_refusing ts ≡ deep → ⊥
+  refusing-shallow n ts e = go (starts L cs ts) e
+    where
+      go : (b : Bool) → cond b (wrong ts) (p.run ts) ≡ deep → ⊥
+      go true e = cc
+      go false e = p.shallow n ts e
+
+  pub refusing-complete : s.empty ≡ false → all_apart L s.firsts cs ≡ true → s.fine ≡ true
+      → (used : List Tok) (a : A) (rest : Rest Tok Mark) → R used a → starts L s.goes rest ≡ false
+      → run_refusing (onto used rest) ≡ read a rest
+  refusing-complete some apart f used a rest h e =
+      let other = begins-apart L s.firsts cs s.empty used rest apart (p.begins used a h)
+      (λ none. absurd cc) in
+      rw other (p.complete f used a rest h e)
+
+  -- a part, which is not empty: the tokens are wrong where one of these comes next, with which none
+  -- begins
+  abbrev pub refusing_reader : s.empty ≡ false → all_apart L s.firsts cs ≡ true → Reader L R s
+  refusing_reader some apart = record {
+    run = run_refusing;
+    local = refusing-local;
+    sound = refusing-sound;
+    complete = refusing-complete some apart;
+    begins = p.begins;
+    shallow = refusing-shallow;
   }
 
 -- what a part says, and then a value with a property of it
@@ -344,11 +394,34 @@ begun {A = A} {L = L} {k = k} p some =
           (near_same (never {L = L} {A = A}) refl);
     }
 
+module _ {Tok Mark Class A : Type 0} {L : Lexicon Tok Mark Class} {R R' : List Tok → A → Type 0}
+    {s : Shape Class} (cs : List Class) (p : Reader L R s) (p' : Reader L R' s) (k : ℕ) where
+  wrong_near : (ts : Rest Tok Mark) → NearAt {A = A} k ts (wrong ts) (wrong ts)
+  wrong_near ts = inl (refl, λ e. cc)
+
+  pub near-refusing : Near k p.run p'.run → Near k (run_refusing cs p) (run_refusing cs p')
+  near-refusing near ts = go (starts L cs ts)
+    where
+      go : (b : Bool)
+          → NearAt k ts (cond b (wrong ts) (p.run ts)) (cond b (wrong ts) (p'.run ts))
+      go true = wrong_near ts
+      go false = near ts
+
 pub near-wrong_from : {Tok Mark A : Type 0} (k : ℕ) (ts : Rest Tok Mark) (r r' : Read Tok Mark A)
     → NearAt k ts r r' → NearAt k ts (wrong_from ts r) (wrong_from ts r')
 near-wrong_from k ts r r' (inl h) =
     inl (ap (wrong_from ts) h.0, λ e. h.1 (wrong_from-deep ts r e))
 near-wrong_from k ts r r' (inr h) = inr (ap (wrong_from ts) h.0, h.1)
+
+-- such a part, which is wrong where one of these tokens comes next
+abbrev pub refusing : {Tok Mark Class A : Type 0} {L : Lexicon Tok Mark Class}
+    {R R' : List Tok → A → Type 0} {s : Shape Class} {k : ℕ} (cs : List Class)
+    (p : Pair L R R' s k) → s.empty ≡ false → all_apart L s.firsts cs ≡ true → Pair L R R' s k
+refusing {k = k} cs p some apart = record {
+  low = refusing_reader cs p.low some apart;
+  high = refusing_reader cs p.high some apart;
+  near = near-refusing cs p.low p.high k p.near;
+}
 
 -- such a part, which is wrong from its first token on, if something in it is wrong
 abbrev pub from_start : {Tok Mark Class A : Type 0} {L : Lexicon Tok Mark Class}

@@ -10,7 +10,10 @@ ghost use Rattle.protobuf_parse_syntax.specs.Grammar as grammar;
 ghost use Rattle.protobuf_parse_syntax.specs.Productions as read;
 ghost use Rattle.protobuf_parse_syntax.specs.Trees as view;
 ghost use Rattle.protobuf_parse_syntax.specs.InnerViews.{constant_field_syntax};
-ghost use Rattle.protobuf_parse_syntax.specs.Code.{left, Gives, Stands};
+ghost use Rattle.protobuf_parse_syntax.specs.Grammar.{IsConstant};
+ghost use Rattle.protobuf_parse_syntax.specs.Code.{left, Gives, GivesOr, Stands, IsWrong};
+ghost use Rattle.protobuf_parse_syntax.specs.Code.{InConstant, InValue, InField, AreFields};
+ghost use Rattle.protobuf_parse_syntax.specs.Code.{AreEarlier, Behind};
 ghost use Rattle.protobuf_parse_syntax.specs.Nested as nest;
 
 use crate::parser::cursor::Cursor;
@@ -28,8 +31,8 @@ pub fn constant(
     tokens: &mut Cursor<'_>,
     levels: usize,
 ) -> Result<ProtobufConstant, Refusal>
-    ensures { Gives view.constant_syntax result (left tokens.new)
-        ((nest.constant levels).run (left tokens.old)) }
+    ensures { GivesOr (IsWrong InConstant (left tokens.old)) view.constant_syntax result
+        (left tokens.new) ((nest.constant levels).run (left tokens.old)) }
 {
     if levels == 0 {
         return Err(Refusal::Fault(ParserError::NestingTooDeep));
@@ -45,8 +48,8 @@ fn constant_of(
     tokens: &mut Cursor<'_>,
     levels: usize,
 ) -> Result<ProtobufConstant, Refusal>
-    ensures { Gives view.constant_syntax result (left tokens.new)
-        ((nest.constant_in levels).run (left tokens.old)) }
+    ensures { GivesOr (IsWrong InConstant (left tokens.old)) view.constant_syntax result
+        (left tokens.new) ((nest.constant_in levels).run (left tokens.old)) }
 {
     if tokens.sees_symbol('{') {
         return message_constant(alloc, tokens, levels);
@@ -63,18 +66,19 @@ fn constant_of(
     if tokens.sees_str() {
         return Ok(ProtobufConstant::String(string(alloc, tokens)?));
     }
+    if tokens.sees_float() {
+        return Err(Refusal::Fault(ParserError::FloatConstant));
+    }
     Err(Refusal::Fault(constant_fault(tokens)))
 }
 
-/// Why no constant begins with the next token.
-#[tactic(auto, using(crate::proofs::Constants::float_stands, crate::proofs::Constants::begins_none))]
+/// Why no constant begins with the next token, which is no float.
+#[tactic(auto, using(crate::proofs::Constants::begins_none))]
 fn constant_fault(tokens: &Cursor<'_>) -> ParserError
-    requires { starts lexicon nest.constant_firsts (left tokens.now) ≡ false }
+    requires { starts lexicon nest.item_firsts (left tokens.now) ≡ false }
     ensures { Stands result (left tokens.now) }
 {
-    if tokens.sees_float() {
-        ParserError::FloatConstant
-    } else if tokens.is_empty() {
+    if tokens.is_empty() {
         ParserError::IncorrectInput
     } else {
         ParserError::ExpectConstant
@@ -110,6 +114,15 @@ fn begins_constant(tokens: &Cursor<'_>) -> bool
         || tokens.sees_str()
 }
 
+/// Whether a constant may begin with the next token, or it is a float, which is told where a
+/// constant is read.
+#[tactic(auto, using(crate::proofs::Constants::item_starts))]
+fn begins_item(tokens: &Cursor<'_>) -> bool
+    ensures { result ≡ starts lexicon nest.item_firsts (left tokens.now) }
+{
+    begins_constant(tokens) || tokens.sees_float()
+}
+
 #[tactic(auto, using(crate::proofs::Left::starts_more))]
 fn begins_integer(tokens: &Cursor<'_>) -> bool
     ensures { result ≡ starts lexicon
@@ -122,8 +135,8 @@ fn begins_integer(tokens: &Cursor<'_>) -> bool
 /// `[ "+" | "-" ] int`
 #[tactic(auto, unfolding(crate::specs::Productions::integer_constant, crate::specs::Productions::signed), using(crate::specs::Code::fails_first, crate::proofs::Views::views_number, crate::proofs::Views::views_signed))]
 fn integer(tokens: &mut Cursor<'_>) -> Result<ProtobufConstant, Refusal>
-    ensures { Gives view.constant_syntax result (left tokens.new)
-        (read.integer_constant.run (left tokens.old)) }
+    ensures { GivesOr (IsWrong InConstant (left tokens.old)) view.constant_syntax result
+        (left tokens.new) (read.integer_constant.run (left tokens.old)) }
 {
     if tokens.sees_integer() {
         return Ok(ProtobufConstant::U64(tokens.number()?));
@@ -137,7 +150,8 @@ fn integer(tokens: &mut Cursor<'_>) -> Result<ProtobufConstant, Refusal>
 /// `"+" int`. S18 at the sign before a float, `inf` or `nan`.
 #[tactic(auto, using(crate::specs::Code::fails_first, crate::proofs::Constants::plus_absent, crate::proofs::Constants::plus_fails, crate::proofs::Constants::plus_plain))]
 fn plus(tokens: &mut Cursor<'_>) -> Result<u64, Refusal>
-    ensures { Gives pos result (left tokens.new) (read.plus.run (left tokens.old)) }
+    ensures { GivesOr (IsWrong InConstant (left tokens.old)) pos result (left tokens.new)
+        (read.plus.run (left tokens.old)) }
 {
     if !tokens.sees_symbol('+') {
         return Err(Refusal::Fault(ParserError::IncorrectInput));
@@ -152,7 +166,8 @@ fn plus(tokens: &mut Cursor<'_>) -> Result<u64, Refusal>
 /// `"-" int`. S18 at the sign before a float, `inf` or `nan`.
 #[tactic(auto, using(crate::specs::Code::fails_first, crate::proofs::Constants::minus_absent, crate::proofs::Constants::minus_fails, crate::proofs::Constants::minus_plain))]
 fn minus(tokens: &mut Cursor<'_>) -> Result<i64, Refusal>
-    ensures { Gives (λ n. n) result (left tokens.new) (read.minus.run (left tokens.old)) }
+    ensures { GivesOr (IsWrong InConstant (left tokens.old)) (λ n. n) result (left tokens.new)
+        (read.minus.run (left tokens.old)) }
 {
     if !tokens.sees_symbol('-') {
         return Err(Refusal::Fault(ParserError::IncorrectInput));
@@ -182,11 +197,12 @@ fn negative(number: u64) -> i64
 #[cycle(constant)]
 #[tactic(auto, unfolding(crate::specs::Nested::list_of), using(crate::specs::Code::fails_first, crate::proofs::Views::views_list, crate::proofs::Constants::symbol_absent))]
 fn list(alloc: Global, tokens: &mut Cursor<'_>, levels: usize) -> Result<ProtobufConstant, Refusal>
-    ensures { Gives view.constant_syntax result (left tokens.new)
+    ensures { GivesOr (IsWrong InConstant (left tokens.old)) view.constant_syntax result
+        (left tokens.new)
         ((nest.list_of (both (nest.constant levels))).low.run (left tokens.old)) }
 {
     tokens.symbol('[')?;
-    if begins_constant(tokens) {
+    if begins_item(tokens) {
         let mut items = constants(alloc, tokens, levels)?;
         tokens.symbol(']')?;
         items.shrink_to_fit();
@@ -207,7 +223,8 @@ fn constants(
     tokens: &mut Cursor<'_>,
     levels: usize,
 ) -> Result<Vec<ProtobufConstant>, Refusal>
-    ensures { Gives (λ v. map view.constant_syntax v.items) result (left tokens.new)
+    ensures { GivesOr (IsWrong (Behind (AreEarlier (IsConstant levels)) InConstant)
+        (left tokens.old)) (λ v. map view.constant_syntax v.items) result (left tokens.new)
         ((nest.constants_of (both (nest.constant levels))).low.run (left tokens.old)) }
 {
     let mut items = Vec::new(alloc);
@@ -228,7 +245,8 @@ fn message_constant(
     tokens: &mut Cursor<'_>,
     levels: usize,
 ) -> Result<ProtobufConstant, Refusal>
-    ensures { Gives view.constant_syntax result (left tokens.new)
+    ensures { GivesOr (IsWrong InConstant (left tokens.old)) view.constant_syntax result
+        (left tokens.new)
         ((nest.message_constant_of (both (nest.constant levels))).low.run (left tokens.old)) }
 {
     tokens.symbol('{')?;
@@ -245,7 +263,8 @@ fn constant_fields(
     tokens: &mut Cursor<'_>,
     levels: usize,
 ) -> Result<Vec<ConstantField>, Refusal>
-    ensures { Gives (λ v. map constant_field_syntax v.items) result (left tokens.new)
+    ensures { GivesOr (IsWrong (Behind (AreFields levels) InField) (left tokens.old))
+        (λ v. map constant_field_syntax v.items) result (left tokens.new)
         ((nest.constant_fields_of (both (nest.constant levels))).low.run (left tokens.old)) }
 {
     let mut fields = Vec::new(alloc);
@@ -264,7 +283,7 @@ fn constant_field(
     tokens: &mut Cursor<'_>,
     levels: usize,
 ) -> Result<ConstantField, Refusal>
-    ensures { Gives constant_field_syntax result (left tokens.new)
+    ensures { GivesOr (IsWrong InField (left tokens.old)) constant_field_syntax result (left tokens.new)
         ((nest.constant_field_of (both (nest.constant levels))).low.run (left tokens.old)) }
 {
     let name = constant_name(alloc, tokens)?;
@@ -281,7 +300,7 @@ fn field_value(
     tokens: &mut Cursor<'_>,
     levels: usize,
 ) -> Result<ProtobufConstant, Refusal>
-    ensures { Gives view.constant_syntax result (left tokens.new)
+    ensures { GivesOr (IsWrong InValue (left tokens.old)) view.constant_syntax result (left tokens.new)
         ((nest.value_of (both (nest.constant levels))).low.run (left tokens.old)) }
 {
     if tokens.sees_symbol(':') {

@@ -10,8 +10,8 @@ ghost use Rattle.protobuf_parse_syntax.specs.ClassLaws.{lexicon};
 ghost use Rattle.protobuf_parse_syntax.specs.Productions as read;
 ghost use Rattle.protobuf_parse_syntax.specs.Trees as view;
 ghost use Rattle.protobuf_parse_syntax.specs.Code.{left, Gives, GivesOr, TooMany, IsWrong};
-ghost use Rattle.protobuf_parse_syntax.specs.Code.{LongName, Behind, AreEarlier, IsListFront};
-ghost use Rattle.protobuf_parse_syntax.specs.Code.{IsCommaAlone, begins_part};
+ghost use Rattle.protobuf_parse_syntax.specs.Code.{LongName, InOption, Behind, AreEarlier};
+ghost use Rattle.protobuf_parse_syntax.specs.Code.{IsListFront, IsCommaAlone, begins_part};
 ghost use Rattle.protobuf_parse_syntax.specs.Grammar.{IsAssignment};
 ghost use Rattle.protobuf_parse_syntax.specs.Nested as nest;
 
@@ -51,7 +51,7 @@ pub fn options(
     tokens: &mut Cursor<'_>,
     levels: usize,
 ) -> Result<Vec<ProtobufOption>, Refusal>
-    ensures { GivesOr (IsWrong (Behind (IsListFront levels) LongName) (left tokens.old))
+    ensures { GivesOr (IsWrong (Behind (IsListFront levels) InOption) (left tokens.old))
         (λ v. map view.option_syntax v.items) result (left tokens.new)
         ((nest.options levels).low.run (left tokens.old)) }
 {
@@ -68,7 +68,7 @@ fn bracketed_options(
     tokens: &mut Cursor<'_>,
     levels: usize,
 ) -> Result<Vec<ProtobufOption>, Refusal>
-    ensures { GivesOr (IsWrong (Behind (IsListFront levels) LongName) (left tokens.old))
+    ensures { GivesOr (IsWrong (Behind (IsListFront levels) InOption) (left tokens.old))
         (λ v. map view.option_syntax v.items) result (left tokens.new)
         ((nest.bracketed_options levels).low.run (left tokens.old)) }
 {
@@ -83,7 +83,7 @@ fn assignments(
     tokens: &mut Cursor<'_>,
     levels: usize,
 ) -> Result<Vec<ProtobufOption>, Refusal>
-    ensures { GivesOr (IsWrong (Behind (AreEarlier (IsAssignment levels)) LongName)
+    ensures { GivesOr (IsWrong (Behind (AreEarlier (IsAssignment levels)) InOption)
         (left tokens.old)) (λ v. map view.option_syntax v.items) result (left tokens.new)
         ((nest.assignments levels).low.run (left tokens.old)) }
 {
@@ -102,7 +102,7 @@ fn comma_assignment(
     tokens: &mut Cursor<'_>,
     levels: usize,
 ) -> Result<ProtobufOption, Refusal>
-    ensures { GivesOr (IsWrong (Behind IsCommaAlone LongName) (left tokens.old))
+    ensures { GivesOr (IsWrong (Behind IsCommaAlone InOption) (left tokens.old))
         view.option_syntax result (left tokens.new)
         ((nest.comma_assignment levels).low.run (left tokens.old)) }
 {
@@ -117,7 +117,7 @@ fn assignment(
     tokens: &mut Cursor<'_>,
     levels: usize,
 ) -> Result<ProtobufOption, Refusal>
-    ensures { GivesOr (IsWrong LongName (left tokens.old)) view.option_syntax result
+    ensures { GivesOr (IsWrong InOption (left tokens.old)) view.option_syntax result
         (left tokens.new) ((nest.assignment levels).low.run (left tokens.old)) }
 {
     let place = tokens.place();

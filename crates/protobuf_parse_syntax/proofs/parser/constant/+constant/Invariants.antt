@@ -5,9 +5,11 @@ use Rattle.protobuf_parse_grammar.specs.Combinators.{run_many}
 use Rattle.protobuf_parse_grammar.specs.Loops.{with_rest}
 use Rattle.protobuf_parse_syntax.specs.Trees.{ConstantFieldSyntax, constant_syntax}
 use Rattle.protobuf_parse_syntax.specs.InnerViews.{constant_field_syntax}
+use Rattle.protobuf_parse_syntax.specs.Grammar.{IsConstant, ConstantFieldOf}
 use Rattle.protobuf_parse_syntax.specs.Nested as nest
 use Rattle.protobuf_parse_syntax.specs.Code.{left}
 use Rattle.protobuf_parse_syntax.proofs.Loops.{listed}
+use Rattle.protobuf_parse_syntax.proofs.Lists.{AreRead, ManyRead}
 use Rattle.protobuf_parse_syntax.proofs.parser.constant.+constant.Given as goal
 
 abbrev pub decreases-constant : goal.decreases-constant
@@ -35,19 +37,20 @@ abbrev pub decreases-field_value : goal.decreases-field_value
 decreases-field_value l = 6 * l.levels + 1
 
 abbrev pub invariant-constants-others : goal.invariant-constants-others
-invariant-constants-others l = (nest.constants_of (both (nest.constant l.levels))).low.run
+invariant-constants-others l = ((nest.constants_of (both (nest.constant l.levels))).low.run
     (left l.fn.tokens) ≡ listed (nest.constant l.levels) (map constant_syntax l.items.items)
-    (left l.tokens)
+    (left l.tokens)) × AreRead (IsConstant l.levels) (left l.fn.tokens) (left l.tokens)
 
 abbrev pub decreases-constants-others : goal.decreases-constants-others
 decreases-constants-others l = size (left l.tokens)
 
 abbrev pub invariant-constant_fields-fields : goal.invariant-constant_fields-fields
 invariant-constant_fields-fields l =
-    (nest.constant_fields_of (both (nest.constant l.levels))).low.run (left l.fn.tokens)
+    ((nest.constant_fields_of (both (nest.constant l.levels))).low.run (left l.fn.tokens)
     ≡ with_rest (λ (v : List ConstantFieldSyntax). v) (λ (v : List ConstantFieldSyntax). v)
     (map constant_field_syntax l.fields.items)
-    (run_many (nest.constant_field_of (both (nest.constant l.levels))).low (left l.tokens))
+    (run_many (nest.constant_field_of (both (nest.constant l.levels))).low (left l.tokens)))
+    × ManyRead (ConstantFieldOf (IsConstant l.levels)) (left l.fn.tokens) (left l.tokens)
 
 abbrev pub decreases-constant_fields-fields : goal.decreases-constant_fields-fields
 decreases-constant_fields-fields l = size (left l.tokens)

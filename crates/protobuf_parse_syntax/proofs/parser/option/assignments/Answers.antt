@@ -6,7 +6,7 @@ use Rattle.protobuf_parse_grammar.specs.Loops.{with_rest, shows_themselves, goes
 use Rattle.protobuf_parse_syntax.specs.Trees.{OptionSyntax, option_syntax}
 use Rattle.protobuf_parse_syntax.specs.Nested as nest
 use Rattle.protobuf_parse_syntax.specs.Nested.{assignments_first}
-use Rattle.protobuf_parse_syntax.specs.Code.{left, LongName}
+use Rattle.protobuf_parse_syntax.specs.Code.{left, InOption}
 use Rattle.protobuf_parse_syntax.proofs.Lists.{first_read, next_read, wrong_item, wrong_later}
 use Rattle.protobuf_parse_syntax.proofs.parser.option.assignments.Goals as goal
 
@@ -31,7 +31,7 @@ returns-in_err-assignment c =
     let p = err_from_is_err_and c.from_residual-in_err-assignment.result
     c.from_residual-in_err-assignment.ensures.1 in
     rw (p.1, p.2)
-    (wrong_item (nest.assignment c.args.levels).low LongName c.in_err-assignment.field-0.0
+    (wrong_item (nest.assignment c.args.levels).low InOption c.in_err-assignment.field-0.0
     (left c.args.tokens.now) (left c.assignment.new.tokens) _ c.in_err-assignment.ensures)
 
 pub returns-in_err-option : goal.returns-in_err-option
@@ -39,7 +39,7 @@ returns-in_err-option c =
     let p = err_from_is_err_and c.from_residual-in_err-option.result
     c.from_residual-in_err-option.ensures.1 in
     rw (p.1, p.2)
-    (wrong_later (nest.assignment c.args.levels).low LongName c.in_err-option.field-0.0
+    (wrong_later (nest.assignment c.args.levels).low InOption c.in_err-option.field-0.0
     (left c.args.tokens.now) (left c.comma_assignment.new.tokens) (left c.others.tokens)
     (map option_syntax c.others.options.items) _
     (sym c.sees_symbol.ensures ∙ c.others-test.true) c.others.invariant.1 c.others.invariant.0
