@@ -10,7 +10,7 @@ mod told;
 
 use crate::told::told;
 use anyhow::{Context, Result};
-use protobuf_parse::{FsReader, RunInput, bundled_files, fs_resolver, proto_path_of, run_inputs};
+use protobuf_parse::{FsReader, RunInput, fs_resolver, google_files, proto_path_of, run_inputs};
 use protobuf_parse_diagnostics::Severity;
 use std::env;
 use std::process::ExitCode;
@@ -34,7 +34,7 @@ fn run<R: Runtime<A = std::alloc::Global>>(rt: &R) -> Result<ExitCode> {
         &inputs,
         &resolver,
         &FsReader::new(rt),
-        bundled_files(),
+        google_files(),
     );
     let mut status = ExitCode::SUCCESS;
     for each in &told(alloc, &log, &inputs)? {

@@ -3,7 +3,7 @@
 use crate::linted::linted_files;
 use crate::rules::lint;
 use anyhow::Result;
-use protobuf_parse::{RunInput, RunLog, bundled_files, violations};
+use protobuf_parse::{RunInput, RunLog, google_files, violations};
 use protobuf_parse_diagnostics::{
     Diagnostic, RuleLevel, Sources, arrange, fault_diagnostic, rule_diagnostics,
 };
@@ -13,7 +13,7 @@ use std::alloc::Global;
 /// The fault of the run; or what the rules find in its files: those of the library, and the
 /// linter's own in the inputs.
 pub fn told(alloc: Global, log: &RunLog, inputs: &[RunInput]) -> Result<Vec<Diagnostic>> {
-    let sources = Sources::of_reads(alloc, &log.reads, bundled_files())?;
+    let sources = Sources::of_reads(alloc, &log.reads, google_files())?;
     let mut told = Vec::new(alloc);
     match &log.result {
         Ok(files) => {
