@@ -1,7 +1,7 @@
 //! The files of a command line, and what they import: by runs, by checks, and one at a time.
 
 use protobuf_parse::{
-    CheckLog, FsReader, FsResolver, RunInput, RunLog, google_files, check_inputs, fs_resolver,
+    CheckLog, FsReader, FsResolver, RunInput, RunLog, check_inputs, fs_resolver, google_files,
     run_inputs,
 };
 use protobuf_parse_run::{InputRead, read_input};

@@ -629,9 +629,9 @@ module _ (P M : Text → Type 0) (any : (name : Text) → M name → P name) (cu
         (
           full-named m.output (type_named env m.output) (known env.scope m.output)
               (same-clean env m.input m.output (bytes_eq m.output m.input)
-                  (λ e. sym ((bytes_eq-Decides m.output m.input).0 e))
-                  (no-left (type_missing env m.input) output types)
-                  (no-right (type_missing env m.input) output types)),
+              (λ e. sym ((bytes_eq-Decides m.output m.input).0 e))
+              (no-left (type_missing env m.input) output types)
+              (no-right (type_missing env m.input) output types)),
           tt,
         ),
       )

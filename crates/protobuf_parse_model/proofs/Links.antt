@@ -508,7 +508,7 @@ module _ (seen : Seen) (files : List FileSyntax)
       → Passes r (link_faults reached)
   links (Ok u) h =
       faultless (λ file member.
-          no_fault_at (listed_faults seen) seen.reach.now file h member)
+      no_fault_at (listed_faults seen) seen.reach.now file h member)
   links (Err failure.Memory) h = tt
   links (Err (failure.Fault e)) h = files_told seen.reach.now _ h
 

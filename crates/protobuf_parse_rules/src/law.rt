@@ -26,7 +26,9 @@ pub fn numbers_are_unique(violations: &[Violation]) -> bool
 fn none_is_in_use(violations: &[Violation]) -> bool
     ensures { result ≡ list_all (λ (v : Violation). not (is_number_in_use v.rule)) violations.now }
 {
-    violations.iter().all(|violation| !is_number_in_use(violation.rule))
+    violations
+        .iter()
+        .all(|violation| !is_number_in_use(violation.rule))
 }
 
 /// Whether the rule is C1.

@@ -31,10 +31,11 @@ encode_into-entries-preserved t c =
     subst (λ (xs : Entries). Completes xs
     (entries_view list) c.args.out.now.items c.entries.out.items) (ap entries_view step ∙ seen)
     c.entries.invariant.completes in
-    record { completes = goes_on (c.from.result * 8 + c.wire_type_of.result) e.number e.kind (entry_value_view e.value)
-    (entries_view (drop (i + 1) list))
-    (entries_view list) c.args.out.now.items c.entries.out.items c.put_varint.new.out.items _
-    left is c.in_ok-put_varint.ensures.ok c.in_ok-put_value.ensures.ok;
+    record {
+      completes = goes_on (c.from.result * 8 + c.wire_type_of.result) e.number e.kind (entry_value_view e.value)
+          (entries_view (drop (i + 1) list))
+          (entries_view list) c.args.out.now.items c.entries.out.items c.put_varint.new.out.items _
+          left is c.in_ok-put_varint.ensures.ok c.in_ok-put_value.ensures.ok;
       begins = begins_more c.args.out.now.items c.entries.out.items _ c.entries.invariant.begins
           (begins_more c.entries.out.items c.put_varint.new.out.items _
           (begins_behind c.entries.out.items _ _ c.in_ok-put_varint.ensures.ok)
