@@ -7,8 +7,8 @@ mod page;
 mod types;
 
 use crate::page::page_of;
-use anyhow::{Context, Result};
-use protobuf_parse::Parser;
+use anyhow::{Context, Result, ensure};
+use protobuf_parse::{Parser, numbers_are_unique, violations};
 use std::env;
 use std::rt::Runtime;
 
@@ -23,6 +23,12 @@ fn run<R: Runtime<A = std::alloc::Global>>(rt: &R) -> Result<()> {
         parser.push_input(&input)?;
     }
     let parsed = parser.parse_and_typecheck(rt)?;
+    // Custom options can be read back where each number of a message is in use once.
+    let violations = violations(rt.alloc(), &parsed.file_descriptors)?;
+    ensure!(
+        numbers_are_unique(&violations),
+        "a number of a field is in use already: see what the command says of these files"
+    );
     print!(rt; "{}", page_of(rt.alloc(), &parsed.file_descriptors)?)?;
     Ok(())
 }
