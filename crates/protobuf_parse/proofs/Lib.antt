@@ -1,3 +1,4 @@
+pub mod FoundFirst
 pub mod Including
 pub mod Building
 mod NumbersApart

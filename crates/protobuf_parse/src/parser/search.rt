@@ -42,7 +42,8 @@ pub fn first_found<L: LooksInIncludes>(
     for include in includes {
         match looks.look_in(alloc, include, path) {
             Ok(None) => {}
-            found => return found,
+            Ok(Some(file)) => return Ok(Some(file)),
+            Err(fault) => return Err(fault),
         }
     }
     Ok(None)
