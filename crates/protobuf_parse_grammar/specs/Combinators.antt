@@ -2,7 +2,7 @@
 -- How readers are put together: nothing, one token, one part and another, a choice, a repetition.
 use Rattle.std.proofs.Common.{◌≡◌, ℕ, zero, suc, ◌<◌, ◌≤◌, List, [], ◌∷◌, ◌++◌, Option, Some, None}
 use Rattle.std.proofs.Common.{Bool, true, false, not, ◌&&◌, ◌||◌, Result, Ok, Err, cond, refl, sym}
-use Rattle.std.proofs.Common.{ap, subst, ◌∙◌, inl, inr, arith}
+use Rattle.std.proofs.Common.{ap, subst, ◌∙◌, inl, inr, arith, append_assoc}
 use Rattle.protobuf_parse_grammar.specs.Relations.{Nothing, One, Then, Either, Many, none, more}
 use Rattle.protobuf_parse_grammar.specs.Readers.{Rest, onto, onto-append, size, next, Read, bind}
 use Rattle.protobuf_parse_grammar.specs.Readers.{bind_read, bind_deep, stuck_not_read, read_parts}
@@ -13,7 +13,7 @@ use Rattle.protobuf_parse_grammar.specs.Readers.{or_true, not_true, next-onto, s
 use Rattle.protobuf_parse_grammar.specs.Readers.{starts-onto, starts-next, all_apart-law}
 use Rattle.protobuf_parse_grammar.specs.Readers.{all_within-law, first-of, last-of, starts-within}
 use Rattle.protobuf_parse_grammar.specs.Readers.{begins-apart, begins-starts, local-same, end}
-use Rattle.protobuf_parse_grammar.specs.Readers.{token, read, stuck, wrong, deep}
+use Rattle.protobuf_parse_grammar.specs.Readers.{token, read, stuck, stopped, wrong, deep}
 
 -- ---- nothing, and one token
 
@@ -59,6 +59,8 @@ module _ {Tok Mark A : Type 0} (says : Tok → Option A) where
       record {
         used = [];
         parts = refl;
+        front = [];
+        ends = refl;
         again = λ other h a us f. let s = same_token t other h in
             let g : run_one says other ≡ stuck other = rw (s.1, e) refl in
             stuck_not_read (run_one says other) other a us g f;
@@ -71,6 +73,8 @@ module _ {Tok Mark A : Type 0} (says : Tok → Option A) where
       record {
         used = [];
         parts = refl;
+        front = [];
+        ends = refl;
         again =
             λ other h a us f.
             let g : run_one says other ≡ stuck other = rw (same_end m other h) refl in
@@ -163,9 +167,13 @@ module _ {Tok Mark A B : Type 0} where
         l.again (onto m.used other) (next-onto m.used rest other h ∙ ap next (sym m.parts)) in
         rw (onto-append l.used m.used other, e) (m.again other h);
   }
-  second-local run f ts a us l (stuck rest) m = record {
+  second-local run f ts a us l (stopped before rest) m = record {
     used = l.used ++ m.used;
     parts = l.parts ∙ ap (onto l.used) m.parts ∙ sym (onto-append l.used m.used rest);
+    front = l.used ++ m.front;
+    ends =
+        ap (λ (v : List Tok). l.used ++ v) m.ends
+        ∙ sym (append_assoc l.used m.front before);
     again = λ other h b vs g.
         let e : run (onto l.used (onto m.used other))
         ≡ read a (onto m.used other) =
@@ -183,10 +191,12 @@ module _ {Tok Mark A B : Type 0} where
       → ((a : A) (us : Rest Tok Mark) → r ≡ read a us → LocalAt (f a) us (f a us))
       → LocalAt (λ vs. bind (run vs) f) ts (bind r f)
   bind-local run f ts (read a us) l g = second-local run f ts a us l (f a us) (g a us refl)
-  bind-local run f ts (stuck rest) l g =
+  bind-local run f ts (stopped before rest) l g =
       record {
         used = l.used;
         parts = l.parts;
+        front = l.front;
+        ends = l.ends;
         again =
             λ other h b vs e. let x = bind_read (run (onto l.used other)) f b vs e in
             l.again other h x.0 x.1 x.2;
@@ -469,7 +479,7 @@ pub bind-same : {Tok Mark A B : Type 0} (r : Read Tok Mark A)
     (f g : A → Rest Tok Mark → Read Tok Mark B)
     → ((a : A) (us : Rest Tok Mark) → r ≡ read a us → f a us ≡ g a us) → bind r f ≡ bind r g
 bind-same (read a us) f g h = h a us refl
-bind-same (stuck rest) f g h = refl
+bind-same (stopped before rest) f g h = refl
 bind-same (wrong m) f g h = refl
 bind-same deep f g h = refl
 

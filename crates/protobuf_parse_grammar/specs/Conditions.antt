@@ -5,7 +5,7 @@ use Rattle.std.proofs.Common.{◌||◌, cond, refl, sym, ap, ◌∙◌}
 use Rattle.protobuf_parse_grammar.specs.Relations.{OneOrMore, Separated, Unless}
 use Rattle.protobuf_parse_grammar.specs.Restrictions.{Optional, Meant, Only}
 use Rattle.protobuf_parse_grammar.specs.Relations.{BeginsOtherwise, At}
-use Rattle.protobuf_parse_grammar.specs.Readers.{Rest, end, token, onto, next, Read, read, stuck}
+use Rattle.protobuf_parse_grammar.specs.Readers.{Rest, end, token, onto, next, Read, read, stuck, stopped}
 use Rattle.protobuf_parse_grammar.specs.Readers.{wrong, deep, bind, bind_read, bind_deep}
 use Rattle.protobuf_parse_grammar.specs.Readers.{read_parts, stuck_not_read, Lexicon, Shape, shape}
 use Rattle.protobuf_parse_grammar.specs.Readers.{LocalAt, LocalRead, Sound, seen_by, starts}
@@ -22,6 +22,8 @@ stuck-local ts =
     record {
       used = [];
       parts = refl;
+      front = [];
+      ends = refl;
       again =
           λ other e a us h. stuck_not_read (stuck other) other a us refl h;
     }
@@ -274,10 +276,12 @@ module _ {Tok Mark Class A B : Type 0} {L : Lexicon Tok Mark Class} {R : List To
   meant-local-at : (ts : Rest Tok Mark) (r : Read Tok Mark A) → LocalAt p.run ts r
       → LocalAt run_meant ts (bind r (λ a us. meaning ts (means a) us))
   meant-local-at ts (read a rest) l = meaning-local ts a rest l (means a) refl
-  meant-local-at ts (stuck rest) l =
+  meant-local-at ts (stopped before rest) l =
       record {
         used = l.used;
         parts = l.parts;
+        front = l.front;
+        ends = l.ends;
         again =
             λ other h b us e.
             let x = bind_read (p.run (onto l.used other))

@@ -4,7 +4,7 @@
 use Rattle.std.proofs.Common.{◌≡◌, ℕ, zero, suc, ◌<◌, ◌≤◌, List, [], ◌∷◌, Option, Some, None, Bool}
 use Rattle.std.proofs.Common.{true, false, cond, refl, inl, inr, ◌⊎◌, arith}
 use Rattle.protobuf_parse_grammar.specs.Relations.{Never}
-use Rattle.protobuf_parse_grammar.specs.Readers.{Rest, onto, size, Read, read, stuck, wrong, deep}
+use Rattle.protobuf_parse_grammar.specs.Readers.{Rest, onto, size, Read, read, stuck, stopped, wrong, deep}
 use Rattle.protobuf_parse_grammar.specs.Readers.{bind, Lexicon, Shape, Reader, Sound, starts}
 use Rattle.protobuf_parse_grammar.specs.Combinators.{run_then}
 use Rattle.protobuf_parse_grammar.specs.Combinators.{run_choose, run_many, many-law, many-sound}
@@ -54,7 +54,7 @@ module _ {Tok Mark A B : Type 0} (k j : ℕ) (ts : Rest Tok Mark)
       → NearAt k ts (bind r f) (bind r g)
   near-same_bind (read a us) flat less near =
       near-rest us (f a us) (g a us) (near a us refl) (less a us refl)
-  near-same_bind (stuck us) flat less near = inl (refl, λ e. cc)
+  near-same_bind (stopped before us) flat less near = inl (refl, λ e. cc)
   near-same_bind (wrong m) flat less near = inl (refl, λ e. cc)
   near-same_bind deep flat less near = absurd (flat refl)
 

@@ -5,7 +5,7 @@ use Rattle.std.proofs.Common.{◌≡◌, List, [], ◌∷◌, ◌++◌, Option, 
 use Rattle.std.proofs.Common.{ap, ◌∙◌, append_assoc}
 use Rattle.std.proofs.lemmas.List.{append-nil}
 use Rattle.protobuf_parse_grammar.specs.Relations.{somes}
-use Rattle.protobuf_parse_grammar.specs.Readers.{Rest, Read, read, stuck, wrong, deep, bind}
+use Rattle.protobuf_parse_grammar.specs.Readers.{Rest, Read, read, stopped, wrong, deep, bind}
 use Rattle.protobuf_parse_grammar.specs.Readers.{Lexicon, Shape, Reader, starts}
 use Rattle.protobuf_parse_grammar.specs.Combinators.{run_many, many-law}
 
@@ -40,7 +40,7 @@ module _ {Tok Mark Class A B C : Type 0} {L : Lexicon Tok Mark Class} {R : List 
       ap (λ (bs : List B). read (make bs) rest)
       (ap (λ (bs : List B). front ++ bs) (law.first a items)
       ∙ sym (append_assoc front (shown (a ∷ [])) (shown items)))
-  regroup front a (stuck rest) = refl
+  regroup front a (stopped before rest) = refl
   regroup front a (wrong m) = refl
   regroup front a deep = refl
 
@@ -54,10 +54,10 @@ module _ {Tok Mark Class A B C : Type 0} {L : Lexicon Tok Mark Class} {R : List 
       ∙ rw (t, e, b) (regroup front a (run_many item us))
 
   -- an item could not be read
-  pub ends_stuck : (front : List B) (ts rest : Rest Tok Mark) (total : Read Tok Mark C)
-      → starts L s.firsts ts ≡ true → item.run ts ≡ stuck rest
-      → total ≡ with_rest shown make front (run_many item ts) → total ≡ stuck rest
-  ends_stuck front ts rest total t e so_far = so_far
+  pub ends_stuck : (front : List B) (ts : Rest Tok Mark) (before : List Tok) (rest : Rest Tok Mark)
+      (total : Read Tok Mark C) → starts L s.firsts ts ≡ true → item.run ts ≡ stopped before rest
+      → total ≡ with_rest shown make front (run_many item ts) → total ≡ stopped before rest
+  ends_stuck front ts before rest total t e so_far = so_far
       ∙ ap (with_rest shown make front) (many-law item some ts) ∙ rw (t, e) refl
 
   pub ends_wrong : (front : List B) (ts : Rest Tok Mark) (rest : Rest Tok Mark)

@@ -38,7 +38,7 @@ near-both {Tok = Tok} {Mark = Mark} {A = A} p ts = go (p.run ts)
   where
     go : (r : Read Tok Mark A) → NearAt 0 ts r r
     go (read.read a rest) = inl (refl, λ e. cc)
-    go (read.stuck rest) = inl (refl, λ e. cc)
+    go (read.stopped before rest) = inl (refl, λ e. cc)
     go (read.wrong m) = inl (refl, λ e. cc)
     go read.deep = inr (refl, omega arith)
 
@@ -86,6 +86,20 @@ behind {k = k} p flat some q =
       high = reader.◌>>◌ p q.high;
       near =
           near-deeper p p (λ a. q.low) (λ a. q.high) k some (near_same p flat) (λ a. q.near);
+    }
+
+-- behind such a part, on whose value they may depend
+abbrev pub past : {Tok Mark Class A B : Type 0} {L : Lexicon Tok Mark Class}
+    {R : List Tok → A → Type 0} {S S' : A → List Tok → B → Type 0} {s t : Shape Class} {k : ℕ}
+    (p : Reader L R s) → s.nests ≡ false → s.empty ≡ false → ((a : A) → Pair L (S a) (S' a) t k)
+    → Pair L (Then R S) (Then R S') (then_shape L s t) (suc k)
+past {k = k} p flat some f =
+    record {
+      low = reader.◌>>=◌ p (λ a. (f a).low);
+      high = reader.◌>>=◌ p (λ a. (f a).high);
+      near =
+          near-deeper p p (λ a. (f a).low) (λ a. (f a).high) k some (near_same p flat)
+          (λ a. (f a).near);
     }
 
 abbrev pub choose : {Tok Mark Class A : Type 0} {L : Lexicon Tok Mark Class}

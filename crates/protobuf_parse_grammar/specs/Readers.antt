@@ -32,19 +32,23 @@ abbrev pub next : {Tok Mark : Type 0} → Rest Tok Mark → Result Tok Mark
 next (end m) = Err m
 next (token t rest) = Ok t
 
--- A value and the tokens after it; or the tokens from the one on that cannot stand there; or the
--- tokens from the first one on of a part that says nothing; or parts that nest deeper than was
--- looked at.
+-- A value and the tokens after it; or the tokens from the one on that cannot stand there, and those
+-- directly before it that are told with it; or the tokens from the first one on of a part that says
+-- nothing; or parts that nest deeper than was looked at.
 pub data Read (Tok Mark A : Type 0) : Type 0 where
   read : A → Rest Tok Mark → Read Tok Mark A
-  stuck : Rest Tok Mark → Read Tok Mark A
+  stopped : List Tok → Rest Tok Mark → Read Tok Mark A
   wrong : Rest Tok Mark → Read Tok Mark A
   deep : Read Tok Mark A
+
+-- the tokens from the one on that cannot stand there, none before it being told
+abbrev pub stuck : {Tok Mark A : Type 0} → Rest Tok Mark → Read Tok Mark A
+stuck rest = stopped [] rest
 
 abbrev pub bind : {Tok Mark A B : Type 0} → Read Tok Mark A → (A → Rest Tok Mark → Read Tok Mark B)
     → Read Tok Mark B
 bind (read a rest) f = f a rest
-bind (stuck rest) f = stuck rest
+bind (stopped before rest) f = stopped before rest
 bind (wrong rest) f = wrong rest
 bind deep f = deep
 
@@ -53,7 +57,7 @@ pub bind_read : {Tok Mark A B : Type 0} (r : Read Tok Mark A)
     → bind r f ≡ read b rest → (a : A) × (us : Rest Tok Mark) × (r ≡ read a us)
     × (f a us ≡ read b rest)
 bind_read (read a us) f b rest e = (a, us, refl, e)
-bind_read (stuck us) f b rest e = absurd cc
+bind_read (stopped before us) f b rest e = absurd cc
 bind_read (wrong m) f b rest e = absurd cc
 bind_read deep f b rest e = absurd cc
 
@@ -61,7 +65,7 @@ pub bind_deep : {Tok Mark A B : Type 0} (r : Read Tok Mark A)
     (f : A → Rest Tok Mark → Read Tok Mark B) → bind r f ≡ deep → (r ≡ deep → ⊥)
     → ((a : A) (us : Rest Tok Mark) → r ≡ read a us → f a us ≡ deep → ⊥) → ⊥
 bind_deep (read a us) f e first second = second a us refl e
-bind_deep (stuck us) f e first second = cc
+bind_deep (stopped before us) f e first second = cc
 bind_deep (wrong m) f e first second = cc
 bind_deep deep f e first second = first refl
 
@@ -69,7 +73,7 @@ pub bind_wrong : {Tok Mark A B : Type 0} (r : Read Tok Mark A)
     (f : A → Rest Tok Mark → Read Tok Mark B) (rest : Rest Tok Mark) → bind r f ≡ wrong rest
     → (r ≡ wrong rest) ⊎ ((a : A) × (us : Rest Tok Mark) × (r ≡ read a us) × (f a us ≡ wrong rest))
 bind_wrong (read a us) f rest e = inr (a, us, refl, e)
-bind_wrong (stuck us) f rest e = absurd cc
+bind_wrong (stopped before us) f rest e = absurd cc
 bind_wrong (wrong m) f rest e = inl (let p : m ≡ rest = cc in ap wrong p)
 bind_wrong deep f rest e = absurd cc
 
@@ -127,18 +131,21 @@ pub record LocalRead {Tok Mark A : Type 0} (run : Rest Tok Mark → Read Tok Mar
   pub again : (other : Rest Tok Mark) → next other ≡ next rest
       → run (onto used other) ≡ read a other
 
--- and where the next token cannot stand, nothing is read, whatever comes after it
+-- and where the next token cannot stand, nothing is read, whatever comes after it; what is told with
+-- it stands directly before it
 pub record LocalStuck {Tok Mark A : Type 0} (run : Rest Tok Mark → Read Tok Mark A)
-    (ts : Rest Tok Mark) (rest : Rest Tok Mark) : Type 0 where
+    (ts : Rest Tok Mark) (before : List Tok) (rest : Rest Tok Mark) : Type 0 where
   pub used : List Tok
   pub parts : ts ≡ onto used rest
+  pub front : List Tok
+  pub ends : used ≡ front ++ before
   pub again : (other : Rest Tok Mark) → next other ≡ next rest → (a : A) (us : Rest Tok Mark)
       → run (onto used other) ≡ read a us → ⊥
 
 abbrev pub LocalAt : {Tok Mark A : Type 0} → (Rest Tok Mark → Read Tok Mark A) → Rest Tok Mark
     → Read Tok Mark A → Type 0
 LocalAt run ts (read a rest) = LocalRead run ts a rest
-LocalAt run ts (stuck rest) = LocalStuck run ts rest
+LocalAt run ts (stopped before rest) = LocalStuck run ts before rest
 LocalAt {Tok = Tok} run ts (wrong rest) = (used : List Tok) × (ts ≡ onto used rest)
 LocalAt run ts deep = Unit {0}
 
@@ -343,10 +350,12 @@ local-same run run' ts (read a rest) same l =
           same (onto l.used other) (next-onto l.used rest other h ∙ ap next (sym l.parts))
           ∙ l.again other h;
     }
-local-same run run' ts (stuck rest) same l =
+local-same run run' ts (stopped before rest) same l =
     record {
       used = l.used;
       parts = l.parts;
+      front = l.front;
+      ends = l.ends;
       again =
           λ other h a us e. l.again other h a us
           (sym (same (onto l.used other) (next-onto l.used rest other h ∙ ap next (sym l.parts)))

@@ -7,7 +7,7 @@ use Rattle.std.proofs.Common.{zero-add}
 use Rattle.std.proofs.Math.Nat.{add-suc}
 use Rattle.std.proofs.lemmas.List.{append_cancel_right}
 use Rattle.protobuf_parse_grammar.specs.Readers.{Rest, end, token, onto, onto-append, size, next}
-use Rattle.protobuf_parse_grammar.specs.Readers.{Read, read, stuck, wrong, deep, read_parts}
+use Rattle.protobuf_parse_grammar.specs.Readers.{Read, read, stopped, wrong, deep, read_parts}
 use Rattle.protobuf_parse_grammar.specs.Readers.{Lexicon, Shape, Reader, LocalAt, LocalRead}
 use Rattle.protobuf_parse_grammar.specs.Readers.{LocalStuck, starts}
 use Rattle.protobuf_parse_grammar.specs.Conditions.{mark_of}
@@ -78,7 +78,7 @@ module _ {Tok Mark Class A : Type 0} {L : Lexicon Tok Mark Class} {R : List Tok 
       → r ≡ read a rest → LocalAt p.run ts r → LocalRead p.run ts a rest
   local_read-at ts (read b us) a rest e l = let q = read_parts b a us rest e in
       subst (λ v. LocalRead p.run ts a v) q.1 (subst (λ v. LocalRead p.run ts v us) q.0 l)
-  local_read-at ts (stuck us) a rest e l = absurd cc
+  local_read-at ts (stopped before us) a rest e l = absurd cc
   local_read-at ts (wrong m) a rest e l = absurd cc
   local_read-at ts deep a rest e l = absurd cc
 
@@ -89,7 +89,7 @@ module _ {Tok Mark Class A : Type 0} {L : Lexicon Tok Mark Class} {R : List Tok 
   local_wrong-at : (ts : Rest Tok Mark) (r : Read Tok Mark A) (rest : Rest Tok Mark)
       → r ≡ wrong rest → LocalAt p.run ts r → (used : List Tok) × (ts ≡ onto used rest)
   local_wrong-at ts (read a us) rest e l = absurd cc
-  local_wrong-at ts (stuck us) rest e l = absurd cc
+  local_wrong-at ts (stopped before us) rest e l = absurd cc
   local_wrong-at ts (wrong us) rest e l = let q : us ≡ rest = cc in (l.0, l.1 ∙ ap (onto l.0) q)
   local_wrong-at ts deep rest e l = absurd cc
 
@@ -111,21 +111,25 @@ module _ {Tok Mark Class A : Type 0} {L : Lexicon Tok Mark Class} {R : List Tok 
       let k = onto-same ts l.used m n l.parts in
       subst (λ v. R v a) (sym k.0) l.holds
 
-  stuck-local : (ts : Rest Tok Mark) (r : Read Tok Mark A) (rest : Rest Tok Mark) → r ≡ stuck rest
-      → LocalAt p.run ts r → LocalStuck p.run ts rest
-  stuck-local ts (read a us) rest e l = absurd cc
-  stuck-local ts (stuck us) rest e l = let q : us ≡ rest = cc in subst (LocalStuck p.run ts) q l
-  stuck-local ts (wrong m) rest e l = absurd cc
-  stuck-local ts deep rest e l = absurd cc
+  stuck-local : (ts : Rest Tok Mark) (r : Read Tok Mark A) (before : List Tok)
+      (rest : Rest Tok Mark) → r ≡ stopped before rest → LocalAt p.run ts r
+      → LocalStuck p.run ts before rest
+  stuck-local ts (read a us) before rest e l = absurd cc
+  stuck-local ts (stopped ks us) before rest e l =
+      let k : ks ≡ before = cc in
+      let q : us ≡ rest = cc in
+      subst (LocalStuck p.run ts before) q (subst (λ v. LocalStuck p.run ts v us) k l)
+  stuck-local ts (wrong m) before rest e l = absurd cc
+  stuck-local ts deep before rest e l = absurd cc
 
-  pub local_stuck : (ts : Rest Tok Mark) (rest : Rest Tok Mark) → p.run ts ≡ stuck rest
-      → LocalStuck p.run ts rest
-  local_stuck ts rest e = stuck-local ts (p.run ts) rest e (p.local ts)
+  pub local_stuck : (ts : Rest Tok Mark) (before : List Tok) (rest : Rest Tok Mark)
+      → p.run ts ≡ stopped before rest → LocalStuck p.run ts before rest
+  local_stuck ts before rest e = stuck-local ts (p.run ts) before rest e (p.local ts)
 
-  pub stops : (ts : List Tok) (m : Mark) (rest : Rest Tok Mark) → p.run (whole ts m) ≡ stuck rest
-      → StopsAt L.mark R ts m (mark_of L.mark rest)
-  stops ts m rest e =
-      let l = local_stuck (whole ts m) rest e in
+  pub stops : (ts : List Tok) (m : Mark) (before : List Tok) (rest : Rest Tok Mark)
+      → p.run (whole ts m) ≡ stopped before rest → StopsAt L.mark R ts m (mark_of L.mark rest)
+  stops ts m before rest e =
+      let l = local_stuck (whole ts m) before rest e in
       let k = left_whole ts l.used m rest l.parts in
       record {
         front = l.used;
@@ -216,18 +220,18 @@ module _ {Tok Mark Class A : Type 0} {L : Lexicon Tok Mark Class} {R : ℕ → L
       append_cancel_right used' used k.0
       (ap (λ (x : List Tok). used' ++ x) (sym same.0) ∙ sym k'.2 ∙ k.2)
 
-  never_deep : (n k : ℕ) (ts other : List Tok) (m : Mark) (rest : Rest Tok Mark) (a : A)
-      → CalmFrom n (whole ts m) → (p n).run (whole ts m) ≡ stuck rest
-      → (l : LocalStuck (p n).run (whole ts m) rest) → next (whole other m) ≡ next rest
+  never_deep : (n k : ℕ) (ts other before : List Tok) (m : Mark) (rest : Rest Tok Mark) (a : A)
+      → CalmFrom n (whole ts m) → (p n).run (whole ts m) ≡ stopped before rest
+      → (l : LocalStuck (p n).run (whole ts m) before rest) → next (whole other m) ≡ next rest
       → (p k).run (whole (l.used ++ other) m) ≡ read a (end m) → ⊥
-  never_deep n k ts other m rest a h e l g r = go (either_way n k)
+  never_deep n k ts other before m rest a h e l g r = go (either_way n k)
     where
       go : ((j : ℕ) × (k ≡ n + j)) ⊎ ((j : ℕ) × (n ≡ k + j)) → ⊥
       go (inl x) =
           let e' : (p k).run (whole ts m)
-          ≡ stuck rest = subst (λ v. (p v).run (whole ts m) ≡ stuck rest) (sym x.1)
-          (settles x.0 n (whole ts m) h ∙ e) in
-          let l' = local_stuck (p k) fine (whole ts m) rest e' in
+          ≡ stopped before rest = subst (λ v. (p v).run (whole ts m) ≡ stopped before rest)
+          (sym x.1) (settles x.0 n (whole ts m) h ∙ e) in
+          let l' = local_stuck (p k) fine (whole ts m) before rest e' in
           let same = same_used ts l.used l'.used m rest l.parts l'.parts in
           l'.again (whole other m) g a (end m)
           (subst (λ v. (p k).run (onto v (whole other m)) ≡ read a (end m)) (sym same)
@@ -240,18 +244,18 @@ module _ {Tok Mark Class A : Type 0} {L : Lexicon Tok Mark Class} {R : ℕ → L
           l.again (whole other m) g a (end m)
           (sym (ap (p n).run (onto-append l.used other (end m))) ∙ r')
 
-  pub deep_stops : (n : ℕ) (ts : List Tok) (m : Mark) (rest : Rest Tok Mark)
-      → CalmFrom n (whole ts m) → (p n).run (whole ts m) ≡ stuck rest
+  pub deep_stops : (n : ℕ) (ts : List Tok) (m : Mark) (before : List Tok) (rest : Rest Tok Mark)
+      → CalmFrom n (whole ts m) → (p n).run (whole ts m) ≡ stopped before rest
       → StopsAt L.mark (AtSomeDepth R) ts m (mark_of L.mark rest)
-  deep_stops n ts m rest h e =
-      let l = local_stuck (p n) fine (whole ts m) rest e in
+  deep_stops n ts m before rest h e =
+      let l = local_stuck (p n) fine (whole ts m) before rest e in
       let k = left_whole ts l.used m rest l.parts in
       record {
         front = l.used;
         rest = k.0;
         parts = k.2;
         place = ap (mark_of L.mark) k.1 ∙ mark-whole L.mark k.0 m;
-        never = λ other a g r. never_deep n r.0 ts other m rest a h e l
+        never = λ other a g r. never_deep n r.0 ts other before m rest a h e l
             (next-whole other k.0 m g ∙ ap next (sym k.1))
             (reads_whole (p r.0) fine (l.used ++ other) m a r.1);
       }

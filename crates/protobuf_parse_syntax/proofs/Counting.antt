@@ -163,8 +163,7 @@ group_of : {n : ℕ} {F : List Lexeme → FieldStatementSyntax →
     Costs n (GroupOf F place label) field_count
 unfolding GroupOf
 group_of place label f = do
-  skip
-  name ← one
+  name ← (do skip; one)
   skip
   number ← skip
   fields ← braced f

@@ -3,7 +3,7 @@ use Rattle.std.proofs.Common.{◌≡◌, ℕ, ◌+◌, List, [], ◌∷◌, ◌+
 use Rattle.std.proofs.Common.{refl, sym, ap, subst, ◌∙◌, inl, inr, ◌⊎◌, codes}
 use Rattle.std.proofs.lemmas.List.{append-nil}
 use Rattle.protobuf_parse_grammar.specs.Readers.{deep, Rest, end, token, onto, onto-append, read}
-use Rattle.protobuf_parse_grammar.specs.Readers.{stuck}
+use Rattle.protobuf_parse_grammar.specs.Readers.{stuck, stopped}
 use Rattle.protobuf_parse_grammar.specs.Readers.{wrong, Begins, starts, begins-starts, read_parts}
 use Rattle.protobuf_parse_grammar.specs.Relations.{BeginsOtherwise}
 use Rattle.protobuf_parse_lexer.specs.Tokens.{Lexeme}
@@ -28,7 +28,8 @@ use Rattle.protobuf_parse_syntax.specs.Productions as parse
 use Rattle.protobuf_parse_syntax.specs.Nested as nest
 use Rattle.protobuf_parse_syntax.specs.Readings.{steady-near}
 use Rattle.protobuf_parse_syntax.specs.Parsing.{NoTree, StandsAt, TokenAt, IsLarge, NotProto3}
-use Rattle.protobuf_parse_syntax.specs.Parsing.{BeginsNoConstant, IsLowName, IsLabelWord}
+use Rattle.protobuf_parse_syntax.specs.Parsing.{BeginsNoConstant, IsLowName, LowGroupName}
+use Rattle.protobuf_parse_syntax.specs.Parsing.{IsLabelWord}
 use Rattle.protobuf_parse_syntax.specs.Parsing.{IsUnlabelled, IsTheWord, IsOtherStatement}
 use Rattle.protobuf_parse_syntax.specs.Parsing.{EndsWithParts, EndsWithImport, SyntaxHead}
 use Rattle.protobuf_parse_syntax.specs.Parsing.{NextPart, FloatValue, IsFloating, StandsBehind, WrongStrings}
@@ -101,6 +102,14 @@ part_at : (ts used : List Lexeme) (m : Place) (after : Rest Lexeme Place)
     → StandsAt NextPart ts (mark_of place_of after)
 part_at ts used m (end n) e d h = absurd cc
 part_at ts used m (token t rest) e d h = stands_at NextPart ts used m t rest e (λ back f. (d, h))
+
+low_at : (ts used : List Lexeme) (m : Place) (after : Rest Lexeme Place)
+    → whole ts m ≡ onto used after → Comes IsLowName after
+    → ((before : List Lexeme) × (group : Lexeme) × (used ≡ before ++ group ∷ [])
+    × IsTheWord (codes "group") group) → StandsAt LowGroupName ts (mark_of place_of after)
+low_at ts used m (end n) e h k = absurd h
+low_at ts used m (token t rest) e h k =
+    stands_at LowGroupName ts used m t rest e (λ back f. (h, k))
 
 -- what is left does not begin with a string
 no_more : (others : List Lexeme) (m : Place) (us : Rest Lexeme Place) → us ≡ whole others m
@@ -225,8 +234,8 @@ module _ (ts : List Lexeme) (m : Place) (n : ℕ) where
         → IsGrammarFault ts m e (mark_of place_of after)
     next_fault e after h stands =
         let stop = deep_stops (λ i. (nest.file i).low)
-        (steady-near nest.file nest.file-same) refl n ts m after enough h in
-        let l = local_stuck (nest.file n).low refl (whole ts m) after h in
+        (steady-near nest.file nest.file-same) refl n ts m [] after enough h in
+        let l = local_stuck (nest.file n).low refl (whole ts m) [] after h in
         go e stop l.used l.parts stands
       where
         go : (e : ParserError) → StopsAt place_of IsFile ts m (mark_of place_of after)
@@ -235,8 +244,6 @@ module _ (ts : List Lexeme) (m : Place) (n : ℕ) where
         go error.IncorrectInput stop used parts s = stop
         go error.ExpectConstant stop used parts s =
             (stop, token_at BeginsNoConstant ts used m after parts s)
-        go error.GroupNameShouldStartWithUpperCase stop used parts s =
-            (stop, token_at IsLowName ts used m after parts s)
         go error.IntegerOverflow stop used parts s =
             (stop, token_at IsLarge ts used m after parts s)
         go _ stop used parts s = absurd s
@@ -248,8 +255,8 @@ module _ (ts : List Lexeme) (m : Place) (n : ℕ) where
         → IsGrammarFault ts m e (mark_of place_of after)
     unfit_fault e after us syntax version h unfit =
         let stop = deep_stops (λ i. (nest.file i).low)
-        (steady-near nest.file nest.file-same) refl n ts m after enough h in
-        let l = local_stuck (nest.file n).low refl (whole ts m) after h in
+        (steady-near nest.file nest.file-same) refl n ts m [] after enough h in
+        let l = local_stuck (nest.file n).low refl (whole ts m) [] after h in
         go e stop l.used l.parts unfit
       where
         go : (e : ParserError) → StopsAt place_of IsFile ts m (mark_of place_of after)
@@ -358,12 +365,26 @@ module _ (ts : List Lexeme) (m : Place) (n : ℕ) where
     wrong_fault e used after none parts (before, part, is, inr (inr h)) =
         name_fault e before part used after none parts is h
 
+    -- the word `group` stands before a name that does not begin with a capital
+    low_fault : (group : Lexeme) (after : Rest Lexeme Place)
+        → (nest.files n).low.run (whole ts m) ≡ stopped (group ∷ []) after
+        → IsTheWord (codes "group") group → Comes IsLowName after
+        → IsGrammarFault ts m error.GroupNameShouldStartWithUpperCase (mark_of place_of after)
+    low_fault group after h is low =
+        let l = local_stuck (nest.file n).low refl (whole ts m) (group ∷ []) after h in (
+          deep_stops (λ i. (nest.file i).low)
+              (steady-near nest.file nest.file-same) refl n ts m (group ∷ []) after enough h,
+          low_at ts l.used m after l.parts low (l.front, group, l.ends, is),
+        )
+
     here_fault : (e : ParserError) (after : Rest Lexeme Place) (f : Failure)
         → (nest.files n).low.run (whole ts m) ≡ failed f → Tells e after f
         → IsGrammarFault ts m e (mark_of place_of after)
     here_fault e after f h (inl t) =
         absurd (enough 0 (rw add-zero (rw (t.1) at h)))
-    here_fault e after f h (inr t) =
+    here_fault e after f h (inr (inl t)) =
+        rw (t.0) (low_fault (t.1.0) after (h ∙ ap failed (t.1.1)) t.1.2 t.1.3)
+    here_fault e after f h (inr (inr t)) =
         let start : Rest Lexeme Place = onto t.0 after in
         let w : (nest.files n).low.run (whole ts m) ≡ wrong start = rw (t.1) at h in
         let l = local_wrong (nest.file n).low (whole ts m) start w in

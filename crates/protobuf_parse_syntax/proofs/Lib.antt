@@ -29,3 +29,4 @@ pub mod Parts
 pub mod PackageNames
 pub mod Texts
 pub mod ConstantFaults
+pub mod GroupNames

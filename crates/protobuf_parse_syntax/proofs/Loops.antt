@@ -4,7 +4,7 @@ use Rattle.std.proofs.Common.{refl, sym, ap, ◌∙◌, append_assoc}
 use Rattle.std.specs.Option.{option_to_list}
 use Rattle.std.proofs.lemmas.List.{map_push, append-nil}
 use Rattle.protobuf_parse_grammar.specs.Relations.{Then, somes}
-use Rattle.protobuf_parse_grammar.specs.Readers.{Rest, Read, read, stuck, wrong, deep, size, Shape}
+use Rattle.protobuf_parse_grammar.specs.Readers.{Rest, Read, read, stopped, wrong, deep, size, Shape}
 use Rattle.protobuf_parse_grammar.specs.Readers.{shape, Reader, starts}
 use Rattle.protobuf_parse_grammar.specs.Combinators.{then_shape, run_many, many-law, shorter, ◌>>◌}
 use Rattle.protobuf_parse_grammar.specs.Loops.{Shows, shows_themselves, with_rest, goes_on}
@@ -35,8 +35,8 @@ module _ {A B C : Type 0} {R : List Lexeme → A → Type 0} {s : Shape Class}
   fails_as : (front : List B) (ts : Rest Lexeme Place) (f : Failure) (total : Read Lexeme Place C)
       → starts lexicon s.firsts ts ≡ true → item.run ts ≡ failed f
       → total ≡ with_rest shown make front (run_many item ts) → total ≡ failed f
-  fails_as front ts (at rest) total t h so_far =
-      ends_stuck item some shown law make front ts rest total t h so_far
+  fails_as front ts (at before rest) total t h so_far =
+      ends_stuck item some shown law make front ts before rest total t h so_far
   fails_as front ts (off m) total t h so_far =
       ends_wrong item some shown law make front ts m total t h so_far
   fails_as front ts too_deep total t h so_far = so_far
@@ -52,7 +52,7 @@ module _ {A B C : Type 0} {R : List Lexeme → A → Type 0} {s : Shape Class}
 pub with_all : {A : Type 0} (r : Read Lexeme Place (List A))
     → r ≡ with_rest (λ (v : List A). v) (λ (v : List A). v) [] r
 with_all (read items rest) = refl
-with_all (stuck rest) = refl
+with_all (stopped before rest) = refl
 with_all (wrong rest) = refl
 with_all deep = refl
 

@@ -21,6 +21,7 @@ use Rattle.protobuf_parse_syntax.specs.Grammar.{IsOptionPart, IsNextPart, IsOpti
 use Rattle.protobuf_parse_syntax.specs.Grammar.{IsAssignment, IsOption, AreOptions, scalars, MapOf}
 use Rattle.protobuf_parse_syntax.specs.Grammar.{TypeOf, IsType, labels, labels3, IsFieldNumber}
 use Rattle.protobuf_parse_syntax.specs.Grammar.{is_capital, capital_ident, NormalFieldOf, GroupOf}
+use Rattle.protobuf_parse_syntax.specs.Grammar.{IsGroupName}
 use Rattle.protobuf_parse_syntax.specs.Grammar.{AfterLabel, FieldOf, IsField, IsOneofField}
 use Rattle.protobuf_parse_syntax.specs.Grammar.{IsOneofStatement, IsOneof, IsExtend, IsRangeEnd}
 use Rattle.protobuf_parse_syntax.specs.Grammar.{IsRange, IsReservedName, AreReserved, IsReserved}
@@ -335,6 +336,9 @@ capital_none false = refl
 pub capital : {n : ℕ} → Keeps n n (One capital_ident) Any
 capital = one (λ c text place. capital_none (is_capital (slice_index text 0)))
 
+pub group_name : {n : ℕ} → Keeps n n IsGroupName Any
+group_name = do word; capital
+
 pub normal_field : {n : ℕ} (d : ℕ) {T : List Lexeme → TypeSyntax →
     Type 0} (place : Place) (label : Option Label) → Keeps n n T Any →
     Keeps n n (NormalFieldOf d T place label) (FieldIn n)
@@ -353,8 +357,7 @@ pub group_of : {n : ℕ} {F : List Lexeme → FieldStatementSyntax →
     Keeps n n (GroupOf F place label) (FieldIn n)
 unfolding GroupOf
 group_of {n = n} place label f = do
-  word
-  name ← capital
+  name ← group_name
   symbol 61 refl
   number ← field_number
   fields ← braced f

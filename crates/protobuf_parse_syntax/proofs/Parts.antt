@@ -4,7 +4,8 @@ use Rattle.std.proofs.Common.{false, ◌||◌, cond, inl, inr, refl, sym, ap, su
 use Rattle.std.proofs.lemmas.List.{append-nil}
 use Rattle.protobuf_parse_grammar.specs.Relations.{Many, none, more}
 use Rattle.protobuf_parse_grammar.specs.Readers.{Rest, end, token, onto, onto-append, Read, read}
-use Rattle.protobuf_parse_grammar.specs.Readers.{stuck, wrong, deep, bind, bind_read, bind_wrong}
+use Rattle.protobuf_parse_grammar.specs.Readers.{stuck, stopped, wrong, deep, bind, bind_read}
+use Rattle.protobuf_parse_grammar.specs.Readers.{bind_wrong}
 use Rattle.protobuf_parse_grammar.specs.Readers.{read_parts, starts}
 use Rattle.protobuf_parse_grammar.specs.Combinators.{with_first}
 use Rattle.protobuf_parse_grammar.specs.Loops.{with_rest}
@@ -62,7 +63,7 @@ regroup : (front : Parts) (a : OptionPartSyntax) (r : ReadParts)
     → behind front (with_first a r) ≡ behind (front ++ a ∷ []) r
 regroup front a (read items rest) =
     ap (λ (v : Parts). read v rest) (sym (append_assoc front (a ∷ []) items))
-regroup front a (stuck rest) = refl
+regroup front a (stopped before rest) = refl
 regroup front a (wrong rest) = refl
 regroup front a deep = refl
 
@@ -267,7 +268,7 @@ named_more k us vs first all dot e =
 named_as : (first : OptionPartSyntax) (r : ReadParts) (f : Failure) → with_first first r ≡ failed f
     → named first r ≡ failed f
 named_as first (read items us) f e = absurd (never_failed (first ∷ items) us f e)
-named_as first (stuck us) f e = failed_as (at us) f e
+named_as first (stopped before us) f e = failed_as (at before us) f e
 named_as first (wrong us) f e = failed_as (off us) f e
 named_as first deep f e = failed_as too_deep f e
 
@@ -279,7 +280,7 @@ fails_named first e after r h =
 first_wrong : (first : OptionPartSyntax) (r : ReadParts) (after : Rest Lexeme Place)
     → with_first first r ≡ wrong after → r ≡ wrong after
 first_wrong first (read items us) after e = absurd cc
-first_wrong first (stuck us) after e = absurd cc
+first_wrong first (stopped before us) after e = absurd cc
 first_wrong first (wrong us) after e = let p : us ≡ after = cc in
     ap (λ (x : Rest Lexeme Place). wrong x) p
 first_wrong first deep after e = absurd cc

@@ -360,8 +360,7 @@ unfoldable pub group_of : {n : ℕ} (s : Syntax) {R : List Lexeme → FieldState
     Quiet n n (GroupOf R place label) (nest.field_shape (word_class (codes "group") ∷ []))
 unfolding GroupOf
 group_of s place label p = shaped (nest.field_shape (word_class (codes "group") ∷ [])) (do
-  flat (part.word (codes "group")) refl keeps.word
-  name ← flat part.capital refl keeps.capital
+  name ← flat part.group_name refl keeps.group_name
   flat (part.symbol char.equals) refl (balance.symbol char.equals refl)
   number ← flat part.field_number refl keeps.field_number
   fields ← field_block_of s p

@@ -4,7 +4,7 @@ use Rattle.std.proofs.Common.{Option, Some, None, codes, refl, ap, ◌∙◌, su
 use Rattle.std.specs.Str.{IsUtf8}
 use Rattle.std.proofs.lemmas.Str.{IsUtf8-from_ascii}
 use Rattle.protobuf_parse_base.specs.Paths.{IsProtoPath, path_fault}
-use Rattle.protobuf_parse_grammar.specs.Readers.{Rest, Read, read, stuck, wrong, deep, bind}
+use Rattle.protobuf_parse_grammar.specs.Readers.{Rest, Read, read, stopped, wrong, deep, bind}
 use Rattle.protobuf_parse_grammar.specs.Readers.{bind_read, read_parts, size, starts}
 use Rattle.protobuf_parse_grammar.specs.Combinators.{run_many, many-law, shorter, with_first}
 use Rattle.protobuf_parse_grammar.specs.Conditions.{meaning}
@@ -156,7 +156,7 @@ module _ {B : Type 0} (M : Pieces → B → Type 0) (means : Pieces → Option B
           → meaning str means ts (means zs) us ≡ failed f
       go None h e = rw (none_too zs h) (failed_as (off ts) f e)
       go (Some v) h e = absurd (never_failed v us f e)
-  no_text-at ts f (stuck m) e = failed_as (at m) f e
+  no_text-at ts f (stopped before m) e = failed_as (at before m) f e
   no_text-at ts f (wrong m) e = failed_as (off m) f e
   no_text-at ts f deep e = failed_as too_deep f e
 

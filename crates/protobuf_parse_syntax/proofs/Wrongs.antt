@@ -108,17 +108,20 @@ module _ {Y : Type 0} {R : List Lexeme → Y → Type 0} {s : Shape Class}
   fails_from_first (Fault e) ts after (inl h) = inl (ap (wrong_from ts) h.0, h.1)
   fails_from_first (Fault e) ts after (inr (f, is, inl h)) =
       inr (too_deep, ap (wrong_from ts) (is ∙ ap failed h.1), inl (h.0, refl))
-  fails_from_first (Fault e) ts after (inr (f, is, inr h)) =
+  fails_from_first (Fault e) ts after (inr (f, is, inr (inl h))) =
+      let k = h.1 in
+      inr (f, ap (wrong_from ts) (is ∙ ap failed k.1) ∙ sym (ap failed k.1), inr (inl h))
+  fails_from_first (Fault e) ts after (inr (f, is, inr (inr h))) =
       let w : p.run ts ≡ wrong (onto h.0 after) = is ∙ ap failed h.1 in
       let l = local_wrong p ts (onto h.0 after) w in
       inr (
         off ts,
         ap (wrong_from ts) w,
-        inr (
+        inr (inr (
           l.0 ++ h.0,
           ap off (l.1 ∙ sym (onto-append l.0 h.0 after)),
           says_behind e l.0 h.0 after h.2,
-        ),
+        )),
       )
   fails_from_first NoField ts after h = ap (wrong_from ts) h
   fails_from_first NoGroupField ts after h = ap (wrong_from ts) h
@@ -134,4 +137,4 @@ module _ {Y : Type 0} {R : List Lexeme → Y → Type 0} {s : Shape Class}
       let w = h.2 in
       let u = h.3 in
       rw (h.1)
-      (inr (off ts, ap (wrong_from ts) w.1, inr (u.0, ap off u.1, says h.0 u.0 u.2)))
+      (inr (off ts, ap (wrong_from ts) w.1, inr (inr (u.0, ap off u.1, says h.0 u.0 u.2))))

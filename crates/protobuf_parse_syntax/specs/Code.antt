@@ -6,7 +6,7 @@ use Rattle.std.specs.Option.{option_to_list}
 use Rattle.std.proofs.Common.{ap, ◌∙◌, refl, inl, inr}
 use Rattle.protobuf_parse_base.specs.Characters as char
 use Rattle.protobuf_parse_grammar.specs.Readers.{Rest, end, token, onto, Read, read, stuck, wrong}
-use Rattle.protobuf_parse_grammar.specs.Readers.{deep, bind}
+use Rattle.protobuf_parse_grammar.specs.Readers.{stopped, deep, bind}
 use Rattle.protobuf_parse_grammar.specs.Relations.{Rel, Many}
 use Rattle.protobuf_parse_grammar.specs.Whole.{whole}
 use Rattle.protobuf_parse_base.specs.declared.proto_path.error.PathError.{PathError}
@@ -54,15 +54,15 @@ is_end (token t rest) = false
 
 -- ---- why nothing is read
 
--- Tokens from one on that cannot stand there; tokens from the first one on of a part that says
--- nothing; or parts that nest deeper than was looked at.
+-- Tokens from one on that cannot stand there, and those before it that are told with it; tokens from
+-- the first one on of a part that says nothing; or parts that nest deeper than was looked at.
 pub data Failure : Type 0 where
-  at : Rest Lexeme Place → Failure
+  at : List Lexeme → Rest Lexeme Place → Failure
   off : Rest Lexeme Place → Failure
   too_deep : Failure
 
 abbrev pub failed : {Y : Type 0} → Failure → Read Lexeme Place Y
-failed (at rest) = stuck rest
+failed (at before rest) = stopped before rest
 failed (off rest) = wrong rest
 failed too_deep = deep
 
@@ -107,7 +107,6 @@ begins_part after = comes (ident [] ∷ symbol char.open_paren ∷ []) after
 abbrev pub Stands : ParserError → Rest Lexeme Place → Type 0
 Stands error.IncorrectInput after = Unit {0}
 Stands error.ExpectConstant after = Comes BeginsNoConstant after
-Stands error.GroupNameShouldStartWithUpperCase after = Comes IsLowName after
 Stands error.IntegerOverflow after = Comes IsLarge after
 Stands _ after = ⊥
 
@@ -225,10 +224,17 @@ abbrev pub Says : Wrongs
 Says e used after = (before : List Lexeme) × (part : List Lexeme) × (used ≡ before ++ part)
     × (NoOption e part after ⊎ NoPath e part after ⊎ NoName e part after)
 
+-- the word `group` stands directly before a name that does not begin with a capital
+abbrev pub LowBehind : ParserError → Rest Lexeme Place → Failure → Type 0
+LowBehind e after f = (e ≡ error.GroupNameShouldStartWithUpperCase)
+    × ((group : Lexeme) × (f ≡ at (group ∷ []) after) × IsTheWord (codes "group") group
+    × Comes IsLowName after)
+
 -- what such a fault says of why nothing is read
 abbrev pub Tells : ParserError → Rest Lexeme Place → Failure → Type 0
 Tells e after f =
     ((e ≡ error.NestingTooDeep) × (f ≡ too_deep))
+    ⊎ LowBehind e after f
     ⊎ ((used : List Lexeme) × (f ≡ off (onto used after)) × Says e used after)
 
 -- Memory ran out; or the tokens from the next one on cannot stand there; or nothing is read of the
@@ -302,15 +308,15 @@ pub fails_alike : {Y Z : Type 0} (e : Refusal) (after : Rest Lexeme Place) (r : 
     (q : Read Lexeme Place Z) → ((f : Failure) → r ≡ failed f → q ≡ failed f) → Fails e after r
     → Fails e after q
 fails_alike Memory after r q same h = tt
-fails_alike (Fault e) after r q same (inl h) = inl (same (at after) h.0, h.1)
+fails_alike (Fault e) after r q same (inl h) = inl (same (at [] after) h.0, h.1)
 fails_alike (Fault e) after r q same (inr h) = inr (h.0, same h.0 h.1, h.2)
-fails_alike NoField after r q same h = same (at after) h
-fails_alike NoGroupField after r q same h = same (at after) h
-fails_alike NoOneofField after r q same h = same (at after) h
+fails_alike NoField after r q same h = same (at [] after) h
+fails_alike NoGroupField after r q same h = same (at [] after) h
+fails_alike NoOneofField after r q same h = same (at [] after) h
 
 failed_bind : {Y Z : Type 0} (f : Failure) (g : Y → Rest Lexeme Place → Read Lexeme Place Z)
     → bind (failed f) g ≡ failed f
-failed_bind (at rest) g = refl
+failed_bind (at before rest) g = refl
 failed_bind (off rest) g = refl
 failed_bind too_deep g = refl
 

@@ -400,6 +400,10 @@ is_capital c = nat_le char.capital_a c && nat_le c char.capital_z
 abbrev pub capital_ident : Lexeme → Option Bytes
 capital_ident t = cond (is_capital (slice_index t.text 0)) (any_ident t) None
 
+-- the word `group`, and such an identifier
+abbrev pub IsGroupName : Rel Lexeme Bytes
+IsGroupName = do IsWord (codes "group"); One capital_ident
+
 -- a field of such a type
 unfoldable pub NormalFieldOf :
     ℕ → Rel Lexeme TypeSyntax → Place → Option Label → Rel Lexeme FieldStatementSyntax
@@ -423,8 +427,7 @@ NormalFieldOf n T place label = do
 unfoldable pub GroupOf :
     Rel Lexeme FieldStatementSyntax → Place → Option Label → Rel Lexeme FieldStatementSyntax
 GroupOf F place label = do
-  IsWord (codes "group")
-  name ← One capital_ident
+  name ← IsGroupName
   IsSymbol char.equals
   number ← IsFieldNumber
   fields ← Braced F

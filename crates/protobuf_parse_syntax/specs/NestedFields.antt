@@ -10,7 +10,8 @@ use Rattle.protobuf_parse_grammar.specs.Loops.{with_rest}
 use Rattle.protobuf_parse_grammar.specs.Combinators.{then_shape, either_shape, many_shape, run_many}
 use Rattle.protobuf_parse_grammar.specs.Relations as relation
 use Rattle.protobuf_parse_grammar.specs.Depth.{Near}
-use Rattle.protobuf_parse_grammar.specs.Pairs.{Pair, same, less, give, behind, choose, many, shaped}
+use Rattle.protobuf_parse_grammar.specs.Pairs.{Pair, same, less, give, behind, past, choose, many}
+use Rattle.protobuf_parse_grammar.specs.Pairs.{shaped}
 use Rattle.protobuf_parse_grammar.specs.Pairs.{unless, separated, at, both, none-le, level}
 use Rattle.protobuf_parse_grammar.specs.Pairs.{level-zero, level-suc, levels, ◌>>=◌, ◌>>◌}
 use Rattle.protobuf_parse_lexer.specs.Tokens.{Lexeme}
@@ -22,7 +23,7 @@ use Rattle.protobuf_parse_syntax.specs.Trees as tree
 use Rattle.protobuf_parse_syntax.specs.Trees.{ConstantSyntax, OptionSyntax, TypeSyntax}
 use Rattle.protobuf_parse_syntax.specs.Trees.{FieldStatementSyntax}
 use Rattle.protobuf_parse_syntax.specs.ClassLaws.{lexicon}
-use Rattle.protobuf_parse_syntax.specs.Productions.{Parses, symbol, word, ident, capital, one_of}
+use Rattle.protobuf_parse_syntax.specs.Productions.{Parses, symbol, word, ident, group_name, one_of}
 use Rattle.protobuf_parse_syntax.specs.Productions.{str, name, signed, constant_name, field_end}
 use Rattle.protobuf_parse_syntax.specs.Productions.{word_constant, field_number, option_name}
 use Rattle.protobuf_parse_syntax.specs.Readings.{steady, begun, from_start, refusing}
@@ -474,8 +475,7 @@ unfoldable pub group_of : (s : Syntax) {R R' : List Lexeme → FieldStatementSyn
 unfolding GroupOf
 group_of s place label p =
     shaped (field_shape (word_class (codes "group") ∷ []))
-    (behind (word (codes "group")) refl refl (do
-      name ← same capital refl
+    (past group_name refl refl (λ name. do
       same (symbol char.equals) refl
       number ← same field_number refl
       fields ← field_block_of s p

@@ -82,6 +82,12 @@ IsLowName t = (is_one_of (ident [] ∷ []) t ≡ true) × (capital_ident t ≡ N
 abbrev pub IsTheWord : Bytes → Lexeme → Type 0
 IsTheWord w t = is_one_of (word w ∷ []) t ≡ true
 
+-- such an identifier directly behind the word `group`
+abbrev pub LowGroupName : List Lexeme → Lexeme → List Lexeme → Type 0
+LowGroupName front t back =
+    IsLowName t × ((before : List Lexeme) × (group : Lexeme) × (front ≡ before ++ group ∷ [])
+    × IsTheWord (codes "group") group)
+
 -- a word with which a statement begins that is neither a field nor a oneof
 abbrev pub IsOtherStatement : Lexeme → Type 0
 IsOtherStatement t = (is_one_of (words statement_words) t ≡ true)
@@ -260,7 +266,7 @@ IsGrammarFault ts last error.LabelNotAllowed place =
 IsGrammarFault ts last error.LabelRequired place =
     StopsAt place_of IsFile ts last place × TokenAt IsUnlabelled ts place × NotProto3 ts
 IsGrammarFault ts last error.GroupNameShouldStartWithUpperCase place =
-    StopsAt place_of IsFile ts last place × TokenAt IsLowName ts place
+    StopsAt place_of IsFile ts last place × StandsAt LowGroupName ts place
 IsGrammarFault ts last error.MapFieldNotAllowed place =
     StopsAt place_of IsFile ts last place × TokenAt (IsTheWord (codes "map")) ts place
 IsGrammarFault ts last error.OneOfInGroup place =

@@ -2,7 +2,7 @@
 -- A reader for each production of the grammar in which nothing nests.
 use Rattle.std.proofs.Common.{◌≡◌, ℕ, zero, suc, ℤ, pos, List, [], ◌∷◌, ◌++◌, Option, Some, None}
 use Rattle.std.proofs.Common.{Bool, true, false, ◌||◌, cond, bytes_eq, slice_index, codes, refl}
-use Rattle.std.proofs.Common.{sym, ap, ◌∙◌}
+use Rattle.std.proofs.Common.{sym, ap, ◌∙◌, ◌&&◌, is_none}
 use Rattle.std.proofs.lemmas.List.{append-nil}
 use Rattle.protobuf_parse_base.specs.Characters as char
 use Rattle.protobuf_parse_grammar.specs.Relations.{Rel, Then, Nothing, Either, One, Separated}
@@ -13,7 +13,7 @@ use Rattle.protobuf_parse_grammar.specs.Combinators.{run_many}
 use Rattle.protobuf_parse_grammar.specs.Readers.{Reader, Shape, shape}
 use Rattle.protobuf_parse_grammar.specs.Relations.{seen}
 use Rattle.protobuf_parse_grammar.specs.Combinators.{then_shape, give, one}
-use Rattle.protobuf_parse_grammar.specs.Readers.{or_true}
+use Rattle.protobuf_parse_grammar.specs.Readers.{or_true, and_left, and_right, stuck}
 use Rattle.protobuf_parse_grammar.specs.Combinators.{choose, many, shaped, ◌>>=◌, ◌>>◌}
 use Rattle.protobuf_parse_grammar.specs.Readers.{all_apart-law}
 use Rattle.protobuf_parse_grammar.specs.Conditions.{at, one_or_more, separated, unless, meant}
@@ -42,12 +42,13 @@ use Rattle.protobuf_parse_syntax.specs.Grammar.{truth_words, AfterSlash, labels,
 use Rattle.protobuf_parse_syntax.specs.Grammar.{IsVisibility, IsStr, IsDotted, IsRoot, IsName}
 use Rattle.protobuf_parse_syntax.specs.Grammar.{IsInteger, IsBracketedName, IsConstantName}
 use Rattle.protobuf_parse_syntax.specs.Grammar.{IsFieldEnd, IsWordConstant, IsOptionPart}
+use Rattle.protobuf_parse_syntax.specs.Grammar.{IsGroupName}
 use Rattle.protobuf_parse_syntax.specs.Grammar.{IsFieldNumber, IsRangeEnd, IsRange, IsExtensions}
 use Rattle.protobuf_parse_syntax.specs.Grammar.{IsEnumNumber, IsStreamed, IsPackage, AtMost}
 use Rattle.protobuf_parse_syntax.specs.Grammar.{IsNextPart, IsOptionName, SaysVersion}
 use Rattle.protobuf_parse_syntax.specs.Grammar.{SaysPath, IsVersion, IsPath, IsReservedName}
 use Rattle.protobuf_parse_syntax.specs.Grammar.{IsSyntax, IsImport, AreReserved, IsReserved}
-use Rattle.protobuf_parse_syntax.specs.Readings.{for, from_first, too_many, finding, none-to}
+use Rattle.protobuf_parse_syntax.specs.Readings.{for, from_first, telling, too_many, finding, none-to}
 use Rattle.protobuf_parse_syntax.specs.Readings.{none-from, more-to, more-from}
 use Rattle.protobuf_parse_syntax.specs.Said.{version_of, path_of}
 use Rattle.protobuf_parse_syntax.specs.SaidLaws.{version-to, version-from, path-to, path-from}
@@ -98,6 +99,37 @@ capital-law t a e = go (grammar.is_capital (slice_index t.text 0)) e
 
 abbrev pub capital : Reader lexicon (One capital_ident) (shape (ident_class [] ∷ []) false [])
 capital = one capital_ident (ident_class [] ∷ []) capital-law
+
+-- whether the word `group` and an identifier come next that does not begin with a capital
+abbrev pub names_low : Lexeme → Rest Lexeme Place → Bool
+names_low t (end m) = false
+names_low t (token u rest) = sees (word_class (codes "group")) t
+    && (sees (ident_class []) u && is_none (capital_ident u))
+
+-- the word `group` and a name that begins with one
+abbrev pub group_parts : Reader lexicon IsGroupName
+    (then_shape lexicon (shape (word_class (codes "group") ∷ []) false [])
+    (shape (ident_class [] ∷ []) false []))
+group_parts = do word (codes "group"); capital
+
+none_there : {A : Type 0} (o : Option A) → is_none o ≡ true → o ≡ None
+none_there None h = refl
+none_there (Some a) h = absurd cc
+
+pub low_stops : (t : Lexeme) (us : Rest Lexeme Place) → names_low t us ≡ true
+    → group_parts.run (token t us) ≡ stuck us
+low_stops t (end m) h = absurd cc
+low_stops t (token u rest) h =
+    let low = and_right (sees (word_class (codes "group")) t) _ h in
+    rw (
+      and_left (sees (word_class (codes "group")) t) _ h,
+      none_there (capital_ident u) (and_right (sees (ident_class []) u) _ low),
+    ) refl
+
+-- such a name; the word is told with one that does not begin with a capital
+unfoldable pub group_name : Parses IsGroupName (shape (word_class (codes "group") ∷ []) false [])
+group_name = shaped (shape (word_class (codes "group") ∷ []) false [])
+    (telling names_low group_parts low_stops) refl
 
 lookup-seen : {A : Type 0} (table : List (Bytes × A)) (t : Lexeme) (a : A)
     → is_ident_token t.kind ≡ true

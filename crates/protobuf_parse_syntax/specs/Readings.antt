@@ -9,7 +9,8 @@ use Rattle.std.proofs.lemmas.List.{append-nil}
 use Rattle.protobuf_parse_grammar.specs.Relations.{Rel, Nothing, Such, Never, Either, Many, none}
 use Rattle.protobuf_parse_grammar.specs.Relations.{more, ◌>>=◌}
 use Rattle.protobuf_parse_grammar.specs.Restrictions.{Meant}
-use Rattle.protobuf_parse_grammar.specs.Readers.{Rest, end, token, onto, Read, read, stuck, wrong}
+use Rattle.protobuf_parse_grammar.specs.Readers.{Rest, end, token, onto, size, Read, read, stuck}
+use Rattle.protobuf_parse_grammar.specs.Readers.{stopped, wrong}
 use Rattle.protobuf_parse_grammar.specs.Readers.{Lexicon, Shape, shape, Sound, Reader, LocalAt}
 use Rattle.protobuf_parse_grammar.specs.Readers.{LocalStuck, starts, deep, all_apart}
 use Rattle.protobuf_parse_grammar.specs.Combinators.{run_choose, choose-local, pick}
@@ -37,6 +38,8 @@ module _ {Tok Mark Class : Type 0} {L : Lexicon Tok Mark Class} where
         record {
           used = [];
           parts = refl;
+          front = [];
+          ends = refl;
           again =
               λ other e a us h. stuck_not_read (stuck other) other a us refl h;
         };
@@ -103,21 +106,21 @@ module _ {Tok Mark Class A : Type 0} {L : Lexicon Tok Mark Class} {R : List Tok 
 -- what is wrong somewhere is wrong from here on
 abbrev pub wrong_from : {Tok Mark A : Type 0} → Rest Tok Mark → Read Tok Mark A → Read Tok Mark A
 wrong_from ts (read a us) = read a us
-wrong_from ts (stuck us) = stuck us
+wrong_from ts (stopped before us) = stopped before us
 wrong_from ts (wrong us) = wrong ts
 wrong_from ts deep = deep
 
 pub wrong_from-read : {Tok Mark A : Type 0} (ts : Rest Tok Mark) (r : Read Tok Mark A) (a : A)
     (us : Rest Tok Mark) → wrong_from ts r ≡ read a us → r ≡ read a us
 wrong_from-read ts (read b vs) a us e = e
-wrong_from-read ts (stuck vs) a us e = absurd cc
+wrong_from-read ts (stopped before vs) a us e = absurd cc
 wrong_from-read ts (wrong vs) a us e = absurd cc
 wrong_from-read ts deep a us e = absurd cc
 
 pub wrong_from-deep : {Tok Mark A : Type 0} (ts : Rest Tok Mark) (r : Read Tok Mark A)
     → wrong_from ts r ≡ deep → r ≡ deep
 wrong_from-deep ts (read b vs) e = absurd cc
-wrong_from-deep ts (stuck vs) e = absurd cc
+wrong_from-deep ts (stopped before vs) e = absurd cc
 wrong_from-deep ts (wrong vs) e = absurd cc
 wrong_from-deep ts deep e = refl
 
@@ -130,10 +133,12 @@ module _ {Tok Mark Class A : Type 0} {L : Lexicon Tok Mark Class} {R : List Tok 
       → LocalAt run_from_first ts (wrong_from ts r)
   from_first-local-at ts (read a rest) l =
       record { used = l.used; parts = l.parts; again = λ other h. rw (l.again other h) refl }
-  from_first-local-at ts (stuck rest) l =
+  from_first-local-at ts (stopped before rest) l =
       record {
         used = l.used;
         parts = l.parts;
+        front = l.front;
+        ends = l.ends;
         again =
             λ other h a us e. l.again other h a us
             (wrong_from-read (onto l.used other) (p.run (onto l.used other)) a us e);
@@ -155,6 +160,106 @@ module _ {Tok Mark Class A : Type 0} {L : Lexicon Tok Mark Class} {R : List Tok 
     begins = p.begins;
     shallow = λ n ts e. p.shallow n ts (wrong_from-deep ts (p.run ts) e);
   }
+
+-- ---- a part whose first token is told with the second
+
+-- the first token, where the test holds of it and of those behind it
+abbrev pub told_first : {Tok Mark : Type 0} → (Tok → Rest Tok Mark → Bool) → Rest Tok Mark
+    → List Tok → List Tok
+told_first test (end m) before = before
+told_first test (token t us) before = cond (test t us) (t ∷ []) before
+
+module _ {Tok Mark A : Type 0} (test : Tok → Rest Tok Mark → Bool) where
+  abbrev pub told_with : Rest Tok Mark → Read Tok Mark A → Read Tok Mark A
+  told_with ts (read a us) = read a us
+  told_with ts (stopped before us) = stopped (told_first test ts before) us
+  told_with ts (wrong us) = wrong us
+  told_with ts deep = deep
+
+  pub told-read : (ts : Rest Tok Mark) (r : Read Tok Mark A) (a : A) (us : Rest Tok Mark)
+      → told_with ts r ≡ read a us → r ≡ read a us
+  told-read ts (read b vs) a us e = e
+  told-read ts (stopped before vs) a us e = absurd cc
+  told-read ts (wrong vs) a us e = absurd cc
+  told-read ts deep a us e = absurd cc
+
+  pub told-deep : (ts : Rest Tok Mark) (r : Read Tok Mark A) → told_with ts r ≡ deep → r ≡ deep
+  told-deep ts (read b vs) e = absurd cc
+  told-deep ts (stopped before vs) e = absurd cc
+  told-deep ts (wrong vs) e = absurd cc
+  told-deep ts deep e = refl
+
+size-behind : {Tok Mark : Type 0} (ws : List Tok) (us : Rest Tok Mark)
+    → size us ≤ size (onto ws us)
+size-behind [] us = omega arith
+size-behind (w ∷ ws) us = omega (arith, size-behind ws us)
+
+larger : {Tok Mark : Type 0} (ws : List Tok) (t : Tok) (us : Rest Tok Mark)
+    → us ≡ token t (onto ws us) → ⊥
+larger ws t us e = omega (arith, ap size e, size-behind ws us)
+
+-- what lies between tokens and all but the first of them is the first
+one_used : {Tok Mark : Type 0} (t : Tok) (us : Rest Tok Mark) (used : List Tok)
+    → token t us ≡ onto used us → used ≡ t ∷ []
+one_used t us [] e = absurd (larger [] t us (sym e))
+one_used {Tok = Tok} t us (u ∷ []) e = let p : u ≡ t = cc in ap (λ (x : Tok). x ∷ []) p
+one_used t us (u ∷ (v ∷ ws)) e =
+    let p : us ≡ token v (onto ws us) = cc in absurd (larger ws v us p)
+
+module _ {Tok Mark Class A : Type 0} {L : Lexicon Tok Mark Class} {R : List Tok → A → Type 0}
+    {s : Shape Class} (test : Tok → Rest Tok Mark → Bool) (p : Reader L R s)
+    (stops : (t : Tok) (us : Rest Tok Mark) → test t us ≡ true → p.run (token t us) ≡ stuck us)
+  where
+    abbrev pub run_telling : Rest Tok Mark → Read Tok Mark A
+    run_telling ts = told_with test ts (p.run ts)
+
+    -- what is told stands directly before the second token
+    telling-ends : (ts : Rest Tok Mark) (before : List Tok) (rest : Rest Tok Mark)
+        (l : LocalStuck p.run ts before rest) → p.run ts ≡ stopped before rest
+        → (front : List Tok) × (l.used ≡ front ++ told_first test ts before)
+    telling-ends (end m) before rest l e = (l.front, l.ends)
+    telling-ends (token t us) before rest l e = go (test t us) refl
+      where
+        go : (b : Bool) → test t us ≡ b
+            → (front : List Tok) × (l.used ≡ front ++ cond b (t ∷ []) before)
+        go true h =
+            let s = sym (stops t us h) ∙ e in
+            let same : us ≡ rest = cc in
+            ([], one_used t us l.used (l.parts ∙ ap (onto l.used) (sym same)))
+        go false h = (l.front, l.ends)
+
+    pub telling-local-at : (ts : Rest Tok Mark) (r : Read Tok Mark A) → p.run ts ≡ r
+        → LocalAt p.run ts r → LocalAt run_telling ts (told_with test ts r)
+    telling-local-at ts (read a rest) e l =
+        record { used = l.used; parts = l.parts; again = λ other h. rw (l.again other h) refl }
+    telling-local-at ts (stopped before rest) e l =
+        let k = telling-ends ts before rest l e in
+        record {
+          used = l.used;
+          parts = l.parts;
+          front = k.0;
+          ends = k.1;
+          again =
+              λ other h a us f. l.again other h a us
+              (told-read test (onto l.used other) (p.run (onto l.used other)) a us f);
+        }
+    telling-local-at ts (wrong rest) e l = l
+    telling-local-at ts deep e l = tt
+
+    pub telling-complete : s.fine ≡ true → (used : List Tok) (a : A) (rest : Rest Tok Mark)
+        → R used a → starts L s.goes rest ≡ false → run_telling (onto used rest) ≡ read a rest
+    telling-complete f used a rest h e = rw (p.complete f used a rest h e) refl
+
+    -- such a part: where the test holds, only the second token cannot stand there
+    abbrev pub telling : Reader L R s
+    telling = record {
+      run = run_telling;
+      local = λ ts. telling-local-at ts (p.run ts) refl (p.local ts);
+      sound = λ ts a rest e. p.sound ts a rest (told-read test ts (p.run ts) a rest e);
+      complete = telling-complete;
+      begins = p.begins;
+      shallow = λ n ts e. p.shallow n ts (told-deep test ts (p.run ts) e);
+    }
 
 -- ---- a part that is wrong at some tokens
 
@@ -274,9 +379,15 @@ module _ {Tok Mark Class : Type 0} (A : Type 0) (L : Lexicon Tok Mark Class)
       go true e = cc
       go false e = cc
 
-  too_many-stuck : (ts : Rest Tok Mark) → LocalStuck run_too_many ts ts
+  too_many-stuck : (ts : Rest Tok Mark) → LocalStuck run_too_many ts [] ts
   too_many-stuck ts =
-      record { used = []; parts = refl; again = λ other h a us e. too_many-never other a us e }
+      record {
+        used = [];
+        parts = refl;
+        front = [];
+        ends = refl;
+        again = λ other h a us e. too_many-never other a us e;
+      }
 
   pub too_many-local : (ts : Rest Tok Mark) → LocalAt run_too_many ts (run_too_many ts)
   too_many-local (end m) = too_many-stuck (end m)

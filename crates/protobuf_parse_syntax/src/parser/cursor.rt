@@ -171,24 +171,6 @@ impl<'text> Cursor<'text> {
         Ok(Name::new(alloc, text)?)
     }
 
-    /// Reads a group's name, an identifier that begins with an ASCII capital. S13 at any other
-    /// identifier, S8 at any other token.
-    pub fn group_name(&mut self, alloc: Global) -> Result<Name, Refusal>
-        ensures { Gives name_bytes result (left self.new) (read.capital.run (left self.old)) }
-    {
-        match self.next_word() {
-            Some(name) => {
-                let bytes = name.as_bytes();
-                if !bytes.is_empty() && bytes[0].is_ascii_uppercase() {
-                    self.ident_name(alloc)
-                } else {
-                    Err(Refusal::Fault(ParserError::GroupNameShouldStartWithUpperCase))
-                }
-            }
-            None => Err(Refusal::Fault(ParserError::IncorrectInput)),
-        }
-    }
-
     /// Whether an integer comes next.
     #[tactic(auto, unfolding(protobuf_parse_grammar::specs::Readers::starts))]
     pub fn sees_integer(&self) -> bool

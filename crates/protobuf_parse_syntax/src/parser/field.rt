@@ -4,11 +4,13 @@
 //! bytes is not handed up from call to call; what is rare is kept out of them, so that its room is
 //! not cleared for each field: docs/PERFORMANCE.md.
 
-ghost use Rattle.std.specs.Prelude.{◌≡◌, suc, false, map};
+ghost use Rattle.std.specs.Prelude.{◌≡◌, suc, false, map, slice_index};
 ghost use Rattle.protobuf_parse_grammar.specs.Readers.{starts};
 ghost use Rattle.protobuf_parse_lexer.specs.Text.{seen_by};
 ghost use Rattle.protobuf_parse_syntax.specs.ClassLaws.{lexicon};
+ghost use Rattle.protobuf_parse_base.specs.DeclaredNames.{name_bytes};
 ghost use Rattle.protobuf_parse_syntax.specs.Grammar as grammar;
+ghost use Rattle.protobuf_parse_syntax.specs.Productions as read;
 ghost use Rattle.protobuf_parse_syntax.specs.Trees as view;
 ghost use Rattle.protobuf_parse_syntax.specs.InnerViews.{group_syntax};
 ghost use Rattle.protobuf_parse_syntax.specs.Code.{left, Gives};
@@ -27,6 +29,7 @@ use crate::parser::words::{
     begins_field, begins_field_item, begins_no_oneof_field, label_of, scalar_of,
 };
 use crate::tree::{Field, FieldStatement, Group, Label, Scalar, Syntax, Type};
+use protobuf_parse_base::Name;
 use protobuf_parse_lexer::{ParserError, Place};
 use std::alloc::Global;
 
@@ -152,8 +155,7 @@ fn group(
     ensures { Gives (λ g. view.group_of (group_syntax g)) result (left tokens.new)
         ((nest.group_of syntax place label (nest.fields syntax levels)).low.run (left tokens.old)) }
 {
-    tokens.word("group")?;
-    let name = tokens.group_name(alloc)?;
+    let name = group_name(alloc, tokens)?;
     tokens.symbol('=')?;
     let number = tokens.field_number()?;
     let fields = group_body(alloc, tokens, syntax, levels)?;
@@ -164,6 +166,26 @@ fn group(
         number,
         fields,
     })
+}
+
+/// `"group" ident`, where the name begins with an ASCII capital. S13 at any other identifier, S8 at
+/// any other token.
+fn group_name(alloc: Global, tokens: &mut Cursor<'_>) -> Result<Name, Refusal>
+    ensures { Gives name_bytes result (left tokens.new) (read.group_name.run (left tokens.old)) }
+{
+    tokens.word("group")?;
+    match tokens.next_word() {
+        Some(name) if begins_with_capital(name) => tokens.ident_name(alloc),
+        Some(_) => Err(Refusal::Fault(ParserError::GroupNameShouldStartWithUpperCase)),
+        None => Err(Refusal::Fault(ParserError::IncorrectInput)),
+    }
+}
+
+fn begins_with_capital(name: &str) -> bool
+    ensures { result ≡ grammar.is_capital (slice_index name.now 0) }
+{
+    let bytes = name.as_bytes();
+    !bytes.is_empty() && bytes[0].is_ascii_uppercase()
 }
 
 /// `"{" { ";" | field } "}"` of a group

@@ -100,26 +100,18 @@ field_statements-returns t c =
     (map field_statement_syntax c.items.fields.items) (left c.items.tokens) _
     (sym c.begins_field_item.ensures ∙ c.items-test.false) c.items.invariant
 
-pub group-returns-in_err-word : goal.group-returns-in_err-word
-unfolding nest.group_of
-group-returns-in_err-word t c =
-    let p = err_from_is_err_and c.from_residual.result c.from_residual.ensures.1 in
-    rw (p.1, p.2) (fails_first c.in_err-word.field-0.0 _ _ _ c.in_err-word.ensures)
-
 pub group-returns-in_err-name : goal.group-returns-in_err-name
 unfolding nest.group_of
 group-returns-in_err-name t c =
-    let p = err_from_is_err_and c.from_residual-in_err-name.result
-    c.from_residual-in_err-name.ensures.1 in
-    rw (p.1, p.2, c.in_ok-word.ensures)
-    (fails_first c.in_err-name.field-0.0 _ _ _ c.in_err-name.ensures)
+    let p = err_from_is_err_and c.from_residual.result c.from_residual.ensures.1 in
+    rw (p.1, p.2) (fails_first c.in_err-name.field-0.0 _ _ _ c.in_err-name.ensures)
 
 pub group-returns-in_err-symbol : goal.group-returns-in_err-symbol
 unfolding nest.group_of
 group-returns-in_err-symbol t c =
     let p = err_from_is_err_and c.from_residual-in_err-symbol.result
     c.from_residual-in_err-symbol.ensures.1 in
-    rw (p.1, p.2, c.in_ok-word.ensures, c.in_ok-name.ensures)
+    rw (p.1, p.2, c.in_ok-name.ensures)
     (fails_first c.in_err-symbol.field-0.0 _ _ _ c.in_err-symbol.ensures)
 
 pub group-returns-in_err-number : goal.group-returns-in_err-number
@@ -127,7 +119,7 @@ unfolding nest.group_of
 group-returns-in_err-number t c =
     let p = err_from_is_err_and c.from_residual-in_err-number.result
     c.from_residual-in_err-number.ensures.1 in
-    rw (p.1, p.2, c.in_ok-word.ensures, c.in_ok-name.ensures, c.in_ok-symbol.ensures)
+    rw (p.1, p.2, c.in_ok-name.ensures, c.in_ok-symbol.ensures)
     (fails_first c.in_err-number.field-0.0 _ _ _ c.in_err-number.ensures)
 
 pub group-returns-in_err-fields : goal.group-returns-in_err-fields
@@ -135,15 +127,8 @@ unfolding nest.group_of
 group-returns-in_err-fields t c =
     let p = err_from_is_err_and c.from_residual-in_err-fields.result
     c.from_residual-in_err-fields.ensures.1 in
-    rw (
-      p.1,
-      p.2,
-      c.in_ok-word.ensures,
-      c.in_ok-name.ensures,
-      c.in_ok-symbol.ensures,
-      c.in_ok-number.ensures,
-    ) (fails_first c.in_err-fields.field-0.0 _ _ _
-    c.in_err-fields.ensures)
+    rw (p.1, p.2, c.in_ok-name.ensures, c.in_ok-symbol.ensures, c.in_ok-number.ensures)
+    (fails_first c.in_err-fields.field-0.0 _ _ _ c.in_err-fields.ensures)
 
 pub after_label-returns-in_err-group : goal.after_label-returns-in_err-group
 unfolding nest.after_label
