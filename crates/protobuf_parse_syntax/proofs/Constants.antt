@@ -26,7 +26,7 @@ use Rattle.protobuf_parse_syntax.specs.Productions.{or_floating, plus, minus, nu
 use Rattle.protobuf_parse_syntax.specs.Productions.{str, word_constant, integer_constant}
 use Rattle.protobuf_parse_syntax.specs.Trees as tree
 use Rattle.protobuf_parse_syntax.specs.Code.{Fails, IsWrong, InConstant, FloatNext, floats_second}
-use Rattle.protobuf_parse_syntax.specs.Code.{Comes, is_end}
+use Rattle.protobuf_parse_syntax.specs.Code.{NextIs, is_end}
 use Rattle.protobuf_parse_syntax.specs.Parsing.{BeginsNoConstant, nothing}
 use Rattle.protobuf_parse_syntax.specs.Nested as nest
 use Rattle.protobuf_parse_syntax.specs.Nested.{constant_firsts, item_firsts}
@@ -220,7 +220,7 @@ item_starts ts = starts-append lexicon constant_firsts (float ∷ []) ts
 
 -- with the next token no constant begins, and it is no float
 pub begins_none : (ts : Rest Lexeme Place) → starts lexicon item_firsts ts ≡ false
-    → is_end ts ≡ false → Comes BeginsNoConstant ts
+    → is_end ts ≡ false → NextIs BeginsNoConstant ts
 unfolding starts
 begins_none (end m) h e = absurd cc
 begins_none (token t rest) h e =

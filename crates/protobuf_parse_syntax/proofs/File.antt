@@ -38,7 +38,7 @@ use Rattle.protobuf_parse_syntax.specs.Parsing.{SaysNothing, IsGrammarFault}
 use Rattle.protobuf_parse_syntax.specs.Code.{Stands, Says, Tells, Fails, Failure, failed, IsWrong}
 use Rattle.protobuf_parse_syntax.specs.Code.{NoVersion, NoOption, NoPath, NoName, of_path}
 use Rattle.protobuf_parse_syntax.specs.Code.{of_version}
-use Rattle.protobuf_parse_syntax.specs.Code.{SaysNot, FloatNext, Comes, begins_part}
+use Rattle.protobuf_parse_syntax.specs.Code.{SaysNot, FloatNext, NextIs, begins_part}
 use Rattle.protobuf_parse_syntax.specs.Code.{is_end, RefusesFile, error_at, Unfit, FileFails}
 use Rattle.protobuf_parse_syntax.specs.declared.parser.refusal.Refusal.{Refusal}
 use Rattle.protobuf_parse_syntax.specs.declared.parser.refusal.Refusal.TheVariants.{Memory, Fault}
@@ -75,7 +75,7 @@ stands_at P ts used m t rest e p = let k = left_whole ts used m (token t rest) e
         }
 
 token_at : (P : Lexeme → Type 0) (ts used : List Lexeme) (m : Place) (after : Rest Lexeme Place)
-    → whole ts m ≡ onto used after → Comes P after → TokenAt P ts (mark_of place_of after)
+    → whole ts m ≡ onto used after → NextIs P after → TokenAt P ts (mark_of place_of after)
 token_at P ts used m (end n) e h = absurd h
 token_at P ts used m (token t rest) e h =
     stands_at (λ front u back. P u) ts used m t rest e (λ back f. h)
@@ -104,7 +104,7 @@ part_at ts used m (end n) e d h = absurd cc
 part_at ts used m (token t rest) e d h = stands_at NextPart ts used m t rest e (λ back f. (d, h))
 
 low_at : (ts used : List Lexeme) (m : Place) (after : Rest Lexeme Place)
-    → whole ts m ≡ onto used after → Comes IsLowName after
+    → whole ts m ≡ onto used after → NextIs IsLowName after
     → ((before : List Lexeme) × (group : Lexeme) × (used ≡ before ++ group ∷ [])
     × IsTheWord (codes "group") group) → StandsAt LowGroupName ts (mark_of place_of after)
 low_at ts used m (end n) e h k = absurd h
@@ -368,7 +368,7 @@ module _ (ts : List Lexeme) (m : Place) (n : ℕ) where
     -- the word `group` stands before a name that does not begin with a capital
     low_fault : (group : Lexeme) (after : Rest Lexeme Place)
         → (nest.files n).low.run (whole ts m) ≡ stopped (group ∷ []) after
-        → IsTheWord (codes "group") group → Comes IsLowName after
+        → IsTheWord (codes "group") group → NextIs IsLowName after
         → IsGrammarFault ts m error.GroupNameShouldStartWithUpperCase (mark_of place_of after)
     low_fault group after h is low =
         let l = local_stuck (nest.file n).low refl (whole ts m) (group ∷ []) after h in (

@@ -15,7 +15,7 @@ use Rattle.protobuf_parse_syntax.specs.Productions.{word, ident, group_name, gro
 use Rattle.protobuf_parse_syntax.specs.Productions.{names_low, low_stops}
 use Rattle.protobuf_parse_syntax.specs.Readings.{told_with}
 use Rattle.protobuf_parse_syntax.specs.Code.{Failure, at, failed, Fails, fails_alike, next_ident}
-use Rattle.protobuf_parse_syntax.specs.Code.{Comes}
+use Rattle.protobuf_parse_syntax.specs.Code.{NextIs}
 use Rattle.protobuf_parse_syntax.specs.declared.parser.refusal.Refusal.{Refusal}
 use Rattle.protobuf_parse_syntax.specs.declared.parser.refusal.Refusal.TheVariants.{Fault}
 use Rattle.protobuf_parse_syntax.proofs.Failures.{failed_as, never_failed}
@@ -99,7 +99,7 @@ capital_at t (token u rest) w is next capital =
     rw (is, first, x.0) refl
 
 low_comes : (us : Rest Lexeme Place) (w : Bytes) → Some w ≡ next_ident us
-    → is_capital (slice_index w 0) ≡ false → Comes IsLowName us
+    → is_capital (slice_index w 0) ≡ false → NextIs IsLowName us
 low_comes (end m) w next low = absurd cc
 low_comes (token u rest) w next low =
     let x = ident_text u w next in
@@ -122,7 +122,7 @@ second_false : (a b c : Bool) → b ≡ false → (a && (b && c)) ≡ false
 second_false true b c q = rw q refl
 second_false false b c q = refl
 
-low_at : (t : Lexeme) (us : Rest Lexeme Place) → is_group t ≡ true → Comes IsLowName us
+low_at : (t : Lexeme) (us : Rest Lexeme Place) → is_group t ≡ true → NextIs IsLowName us
     → group_name.run (token t us) ≡ stopped (t ∷ []) us
 low_at t (end m) is low = absurd low
 low_at t (token u rest) is low =

@@ -19,7 +19,7 @@ use Rattle.protobuf_parse_syntax.specs.Grammar.{any_ident, lookup, table_words, 
 use Rattle.protobuf_parse_syntax.specs.Grammar.{labels, statement_words}
 use Rattle.protobuf_parse_syntax.specs.Parsing.{IsUnlabelled}
 use Rattle.protobuf_parse_syntax.specs.Productions.{one_of}
-use Rattle.protobuf_parse_syntax.specs.Code.{next_ident, Comes}
+use Rattle.protobuf_parse_syntax.specs.Code.{next_ident, NextIs}
 use Rattle.protobuf_parse_syntax.specs.Words.{takes, behind_next, Finds}
 
 ident_seen : (cs : List Class) (w : Bytes) (at : Place)
@@ -147,7 +147,7 @@ finds_word table ts w x e f = (
 
 -- a dot is the first token of what has no label
 pub dot_unlabelled : (ts : Rest Lexeme Place) → starts lexicon (symbol 46 ∷ []) ts ≡ true
-    → Comes IsUnlabelled ts
+    → NextIs IsUnlabelled ts
 unfolding starts
 dot_unlabelled (end m) h = absurd cc
 dot_unlabelled (token t rest) h = go (sees (symbol 46) t) h

@@ -71,10 +71,10 @@ abbrev pub comes : List Class → Rest Lexeme Place → Bool
 comes cs (end m) = false
 comes cs (token t rest) = is_one_of cs t
 
--- such a token comes next
-abbrev pub Comes : (Lexeme → Type 0) → Rest Lexeme Place → Type 0
-Comes P (end m) = ⊥
-Comes P (token t rest) = P t
+-- a token comes next of which this holds
+abbrev pub NextIs : (Lexeme → Type 0) → Rest Lexeme Place → Type 0
+NextIs P (end m) = ⊥
+NextIs P (token t rest) = P t
 
 -- a float comes next; or a sign, and a float, `inf` or `nan` second
 abbrev pub FloatNext : Rest Lexeme Place → Type 0
@@ -106,11 +106,11 @@ begins_part after = comes (ident [] ∷ symbol char.open_paren ∷ []) after
 -- what a fault at the next token says of it
 abbrev pub Stands : ParserError → Rest Lexeme Place → Type 0
 Stands error.IncorrectInput after = Unit {0}
-Stands error.ExpectConstant after = Comes BeginsNoConstant after
-Stands error.IntegerOverflow after = Comes IsLarge after
+Stands error.ExpectConstant after = NextIs BeginsNoConstant after
+Stands error.IntegerOverflow after = NextIs IsLarge after
 Stands _ after = ⊥
 
--- The next token is refused, whatever it is.
+-- refusals that say no more of the next token than that it cannot stand there
 abbrev pub IsNextRefused : Refusal → Type 0
 IsNextRefused Memory = ⊥
 IsNextRefused (Fault error.IncorrectInput) = Unit {0}
@@ -228,7 +228,7 @@ Says e used after = (before : List Lexeme) × (part : List Lexeme) × (used ≡ 
 abbrev pub LowBehind : ParserError → Rest Lexeme Place → Failure → Type 0
 LowBehind e after f = (e ≡ error.GroupNameShouldStartWithUpperCase)
     × ((group : Lexeme) × (f ≡ at (group ∷ []) after) × IsTheWord (codes "group") group
-    × Comes IsLowName after)
+    × NextIs IsLowName after)
 
 -- what such a fault says of why nothing is read
 abbrev pub Tells : ParserError → Rest Lexeme Place → Failure → Type 0
@@ -332,11 +332,11 @@ fails_first {Y = Y} e after r g =
 -- version.
 abbrev pub Unfit : Syntax → ParserError → Rest Lexeme Place → Type 0
 Unfit syntax error.IncorrectInput after = Unit {0}
-Unfit syntax error.LabelNotAllowed after = Comes IsLabelWord after
-Unfit syntax error.LabelRequired after = (syntax ≡ Proto2) × Comes IsUnlabelled after
-Unfit syntax error.MapFieldNotAllowed after = Comes (IsTheWord (codes "map")) after
-Unfit syntax error.OneOfInGroup after = Comes (IsTheWord (codes "oneof")) after
-Unfit syntax error.OnlyFieldsInGroup after = Comes IsOtherStatement after
+Unfit syntax error.LabelNotAllowed after = NextIs IsLabelWord after
+Unfit syntax error.LabelRequired after = (syntax ≡ Proto2) × NextIs IsUnlabelled after
+Unfit syntax error.MapFieldNotAllowed after = NextIs (IsTheWord (codes "map")) after
+Unfit syntax error.OneOfInGroup after = NextIs (IsTheWord (codes "oneof")) after
+Unfit syntax error.OnlyFieldsInGroup after = NextIs IsOtherStatement after
 Unfit syntax _ after = ⊥
 
 -- in a file of either version
