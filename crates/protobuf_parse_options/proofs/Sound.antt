@@ -320,7 +320,6 @@ group_of : {F : List Lexeme → FieldStatementSyntax → Type 0} (place : Place)
     → Says F SoundField → Says (GroupOf F place label) SoundField
 unfolding GroupOf
 group_of place label f = do
-  any
   name ← any
   any
   number ← any
