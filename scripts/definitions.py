@@ -16,7 +16,7 @@ from pathlib import Path
 PAGE = Path("docs/definitions.md")
 MARK = "-- No public clause rests on this file.\n"
 CRATES = "base grammar lexer syntax model elaboration wire options".split()
-CRATES += "descriptor_set listing rules index run".split() + [""]
+CRATES += "descriptor_set listing rules index google run".split() + [""]
 TOKEN = re.compile(r"[^\s(){};,λ\[\]`:!&]+")
 USE = r"(?:^|(?<=\n))\s*(?:ghost |pub |unfoldable )*use (Rattle\.[^\s{;]+?)"
 SIGNATURE = re.compile(

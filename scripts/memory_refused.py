@@ -1,21 +1,25 @@
 #!/usr/bin/env python3
 """Refuses memory to the cases and to the program, one request at a time: docs/testing.md.
 
-    scripts/memory_refused.py [--most N] [--jobs J] [--cases PROGRAM] [--program PROGRAM] [NAME..]
+    scripts/memory_refused.py [--most N] [--jobs J] [--cases PROGRAM] [--program PROGRAM]
+        [--command PROGRAM] [NAME..]
 
-For each row of the files of cases (or of those that are named), and for the program on some files
-(where nothing is named, or the word program), it runs the built program with its first request for
-memory refused, then with its second one, and so on until a run meets no refusal. Each run must say
-that it is out of memory, or give the row's answer; the last one gives the answer. The program may
-tell its usage too, in the runs where its arguments can't be read. Rows that make more than N
-requests (5000) have only each seventh, or each 70th, refused. The status is 0 if all runs are
-right."""
+For each row of the files of cases (or of those that are named), and for the program and the command
+on some files (where nothing is named, or the words program and command), it runs the built program
+with its first request for memory refused, then with its second one, and so on until a run meets no
+refusal. Each run must say that it is out of memory, or give the row's answer; the last one gives
+the answer. The program may tell its usage too, in the runs where its arguments can't be read. A run
+of the command that says so says nothing else, ends with 1, and leaves all files as they were. Rows
+that make more than N requests (5000) have only each seventh, or each 70th, refused. The status is 0
+if all runs are right."""
 
 import argparse
 import concurrent.futures
 import glob
+import itertools
 import os
 import re
+import stat
 import subprocess
 import sys
 import tempfile
@@ -34,10 +38,29 @@ OWN = re.compile(
     r"(Error: (.*: |one.cases\n\nCaused by:\n +)?|one.cases can't be read: (line \d+: )?)"
     r"(memory allocation failed|[Oo]ut of memory)\n"
 )
-# What the command says where memory is short: with 2 while it reads its words, else with 1; also
-# of a file that it reads or writes. Where its output stands in memory, as in the cases, it can't
-# always say it.
-COMMAND = re.compile(r"1|[12]\n(.*\n)?[^\n]*error: [^\n]*out of memory[^\n]*", re.S)
+# All that the command says where memory is short.
+SHORT_OF_MEMORY = f"protobuf_parse_cli: {MEMORY}\n"
+# What the command is run on, in a folder with the data of the cases and the files OUTPUTS.
+COMMAND_ROWS = (
+    "-I shop orders/order.proto",
+    "-I shop --list --include_imports -o old.pb orders/order.proto",
+    "-I shop -o new.pb orders/order.proto customers/customer.proto",
+    "-I shop -o far orders/order.proto",
+    "-I shop -o two orders/order.proto",
+    "-I shop -o folder orders/order.proto",
+    "-I shop -o /dev/stdout orders/order.proto",
+    "--imports -I shop orders/order.proto customers/customer.proto",
+    "-I faulty -o old.pb faulty/a.proto faulty/own.proto faulty/fine.proto",
+    "-I both -I odd odd/a.proto odd/bad.proto odd/bytes.proto",
+    "-I odd odd/c.proto odd/uses_c.proto no.proto",
+    "--rules=warn --list -o old.pb rules/numbers.proto rules/unused.proto",
+    "--rules=never top.proto",
+    "--help",
+    "--version",
+    "",
+    "caf\udce9.proto",
+)
+OLD = b"what was there before\n"
 SHORT = re.compile(
     r"(no answer: (.*: )?)?(memory allocation failed|[Oo]ut of memory)|at 0:0: out of memory"
 )
@@ -105,6 +128,14 @@ def is_read(found, wanted):
     )
 
 
+def is_cut(found, wanted):
+    """Whether the command, whose outputs stand in memory here, tells that it is short, behind what
+    was written before, or lacks the output that had no memory, and has ended with 1."""
+    status, _, said = found.partition("\n")
+    answer = wanted.partition("\n")[2]
+    return status == "1" and said.removesuffix(SHORT_OF_MEMORY.strip()) in answer
+
+
 def is_right(status, text, verb):
     """Whether a run has the answer, or is out of memory. One that shows its reads alone has a
     beginning."""
@@ -120,7 +151,7 @@ def is_right(status, text, verb):
     wanted, found = told.groups()
     if verb == "reads" and (found == "" or wanted.startswith(found + "\n")):
         return True
-    if verb == "command" and COMMAND.fullmatch(found):
+    if verb == "command" and is_cut(found, wanted):
         return True
     if verb == "customs" and is_read(found, wanted):
         return True
@@ -174,18 +205,76 @@ def try_program(refuser, options, folder, row):
     return judged(f"program {row}", refuser.runs(words, folder, options.most), right)
 
 
+def laid_out(folder):
+    """The files that the command may write, as they are before a run, and what it finds in them."""
+    for name in ("new.pb", "old.pb", "one", "two", "far"):
+        if os.path.lexists(f"{folder}/{name}"):
+            os.remove(f"{folder}/{name}")
+    for name in ("old.pb", "one"):
+        with open(f"{folder}/{name}", "wb") as file:
+            file.write(OLD)
+        os.chmod(f"{folder}/{name}", 0o640)
+    os.link(f"{folder}/one", f"{folder}/two")
+    os.symlink("old.pb", f"{folder}/far")
+
+
+def found_in(folder):
+    """Each name in the folder, with its mode and its bytes."""
+    found = []
+    for name in sorted(os.listdir(folder)):
+        path = f"{folder}/{name}"
+        mode = os.lstat(path).st_mode
+        content = open(path, "rb").read() if stat.S_ISREG(mode) else None
+        found.append((name, mode, content))
+    return found
+
+
+def try_command(refuser, options, row):
+    with tempfile.TemporaryDirectory() as folder:
+        for it in os.listdir(DATA):
+            if not it.endswith(".cases"):
+                os.symlink(f"{DATA}/{it}", f"{folder}/{it}")
+        os.mkdir(f"{folder}/folder")
+        words = [options.command, *row.split()]
+        count = next(refuser.records(words, folder, COUNT=1))[2]
+        step = 1 if count <= options.most else 7 if count <= 7 * options.most else 70
+        laid_out(folder)
+        short = (1, SHORT_OF_MEMORY, found_in(folder))
+        ends = {"stdout": subprocess.PIPE, "stderr": subprocess.STDOUT}
+        run = subprocess.run(words, cwd=folder, **ends)
+        wanted = (run.returncode, run.stdout.decode(errors="replace"), found_in(folder))
+        refusals, faults, met = 0, {}, 1
+        for n in itertools.count(1, step):
+            laid_out(folder)
+            _, status, met, text = next(refuser.records(words, folder, FROM=n, ONCE=1))
+            refusals += met
+            told = (os.waitstatus_to_exitcode(status), text, found_in(folder))
+            if told != wanted and not (met and told == short):
+                faults.setdefault((told[0], text, told[2] == short[2]), []).append(n)
+            if not met:
+                break
+        lines = [
+            f"command {row!r}: {len(at)} runs, the first {at[0]}: {what}"
+            for what, at in faults.items()
+        ]
+        return count, step, refusals, lines
+
+
 def tasks(refuser, options):
     all_names = sorted(os.path.basename(it) for it in glob.glob(f"{DATA}/*.cases"))
     # What is printed for a file of cases has its own faults in it.
     all_names.remove("cases.cases")
-    for name in options.names or [*all_names, "program"]:
-        if name == "program":
+    for name in options.names or all_names:
+        if name in ("program", "command"):
             continue
         for line, content in rows_of(f"{DATA}/{name}"):
             yield try_row, (refuser, options, name, line, content)
     if not options.names or "program" in options.names:
         for row in (*PROGRAM_ROWS, USAGE_ROW):
             yield try_program, (refuser, options, DATA, row)
+    if not options.names or "command" in options.names:
+        for row in COMMAND_ROWS:
+            yield try_command, (refuser, options, row)
 
 
 def main():
@@ -199,6 +288,7 @@ def main():
     parser.add_argument(
         "--program", default=f"{crates}/protobuf_parse_program/out/protobuf_parse_program"
     )
+    parser.add_argument("--command", default=f"{crates}/protobuf_parse_cli/out/protobuf_parse_cli")
     parser.add_argument("names", nargs="*")
     options = parser.parse_args()
     rows = whole = refusals = faults = 0

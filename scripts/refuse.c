@@ -1,8 +1,8 @@
 /* Loaded before a program (LD_PRELOAD), runs it once for each N = 1, 2, 3 ... with its Nth request for
    memory refused, until a run meets no refusal. To the descriptor REFUSE_TO it writes for each run a line
    "N STATUS MET LENGTH", and then so many bytes that the run has written. N goes on from REFUSE_FROM by
-   REFUSE_STEP, and REFUSE_COUNT is set where a single run is wanted that refuses nothing: then MET is the
-   number of requests. scripts/memory_refused.py calls it. */
+   REFUSE_STEP, and ends with the first one where REFUSE_ONCE is set; REFUSE_COUNT is set where a single run
+   is wanted that refuses nothing: then MET is the number of requests. scripts/memory_refused.py calls it. */
 #define _GNU_SOURCE
 #include <dlfcn.h>
 #include <stdio.h>
@@ -69,6 +69,6 @@ __attribute__((constructor)) static void runs(void) {
     do {
         if (run(to, n)) return;
         n += number("REFUSE_STEP", 1);
-    } while (*asked >= refused_at);
+    } while (*asked >= refused_at && !getenv("REFUSE_ONCE"));
     _exit(0);
 }

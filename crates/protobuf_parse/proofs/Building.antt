@@ -18,13 +18,12 @@ use Rattle.protobuf_parse_run.specs.declared.log.RunInput.{RunInput}
 use Rattle.protobuf_parse_run.specs.declared.log.RunInput.TheVariants as given
 use Rattle.protobuf_parse_run.specs.Walks.{Input, at}
 use Rattle.protobuf_parse_run.specs.Run.{HaveTrees, IsCaused, MayAnswer, RunsAsTold, input_view}
-use Rattle.protobuf_parse_run.specs.Run.{shipped}
 use Rattle.protobuf_parse.specs.Includes.{AreNamed}
 use Rattle.protobuf_parse.specs.Folders.{MayFind}
 use Rattle.protobuf_parse.specs.Parsers.{MayReadAnything, RunsOverFolders}
 use Rattle.protobuf_parse.specs.Outcomes.{RanOverFolders}
 use Rattle.protobuf_parse.specs.Parsers.{TellsFault, inputs_at, is_of_input}
-use Rattle.protobuf_parse_run.proofs.Telling.{with-shipped}
+use Rattle.protobuf_parse_run.proofs.Telling.{with-table}
 
 -- one that passes the test is kept, and one that doesn't is left out
 pub kept_one : {X : Type 0} (p : X → Bool) (seen : List X) (x : X) (old new : List X) → p x ≡ true
@@ -109,32 +108,33 @@ placed-next names inputs k n i name path old new lt same nis iis nsame isame bef
 -- ---- the run
 
 by-folders : (folders includes : List Text) (log : List ReadEntry) (taken inputs : List Input)
-    (table : List (Text × Text)) (r : Result (Vec FileDescriptorProto) RunFault)
-    → folders ≡ includes → taken ≡ inputs → table ≡ shipped
+    (table bundled : List (Text × Text)) (r : Result (Vec FileDescriptorProto) RunFault)
+    → folders ≡ includes → taken ≡ inputs → table ≡ bundled
     → RunsAsTold (MayAnswer (MayFind folders) MayReadAnything) taken table log r
-    → RunsAsTold (MayAnswer (MayFind includes) MayReadAnything) inputs shipped log r
-by-folders folders includes log taken inputs table r f i t told =
+    → RunsAsTold (MayAnswer (MayFind includes) MayReadAnything) inputs bundled log r
+by-folders folders includes log taken inputs table bundled r f i t told =
     subst (λ (z : List Text). RunsAsTold
-    (MayAnswer (MayFind z) MayReadAnything) inputs shipped log r) f
+    (MayAnswer (MayFind z) MayReadAnything) inputs bundled log r) f
     (subst (λ (z : List Input). RunsAsTold
-    (MayAnswer (MayFind folders) MayReadAnything) z shipped log r) i
+    (MayAnswer (MayFind folders) MayReadAnything) z bundled log r) i
     (subst (λ (z : List (Text × Text)). RunsAsTold
     (MayAnswer (MayFind folders) MayReadAnything) taken z log r) t told))
 
 pub ran-over : (folders includes inputs names : List Text) (log : List ReadEntry)
-    (taken : List Input) (table : List (Text × Text))
+    (taken : List Input) (table bundled : List (Text × Text))
     (r : Result (Vec FileDescriptorProto) RunFault)
-    → folders ≡ includes → taken ≡ inputs_at names inputs → table ≡ shipped → HaveTrees table log
+    → folders ≡ includes → taken ≡ inputs_at names inputs → table ≡ bundled → HaveTrees table log
     → RunsAsTold (MayAnswer (MayFind folders) MayReadAnything) taken table log r
-    → RanOverFolders includes inputs names r
-ran-over folders includes inputs names log taken table r f i t trees told =
+    → RanOverFolders bundled includes inputs names r
+ran-over folders includes inputs names log taken table bundled r f i t trees told =
     either r
-    (with-shipped (MayFind includes) MayReadAnything (inputs_at names inputs) log r
+    (with-table (MayFind includes) MayReadAnything bundled (inputs_at names inputs) log r
     (subst (λ (z : List (Text × Text)). HaveTrees z log) t trees)
-    (by-folders folders includes log taken (inputs_at names inputs) table r f i t told))
+    (by-folders folders includes log taken (inputs_at names inputs) table bundled r f i t told))
   where
     either : (q : Result (Vec FileDescriptorProto) RunFault)
-        → RunsOverFolders includes inputs names q → RanOverFolders includes inputs names q
+        → RunsOverFolders bundled includes inputs names q
+        → RanOverFolders bundled includes inputs names q
     either (Ok files) h = h
     either (Err e) h = inl h
 
@@ -148,35 +148,28 @@ pub caused-over : (folders includes : List Text) (r : Result (Vec FileDescriptor
 caused-over folders includes r is =
     subst (λ (z : List Text). IfErr r (λ f. IsCaused (MayFind z) MayReadAnything f)) is
 
-pub run-caused : (i2 includes : List (String Global)) (f : RunFault) → i2 ≡ includes
-    → IsCaused (MayFind (map string_bytes i2)) MayReadAnything f
-    → IsCaused (MayFind (map string_bytes includes)) MayReadAnything f
-run-caused i2 includes f is =
-    subst (λ (z : List (String Global)). IsCaused (MayFind (map string_bytes z)) MayReadAnything f)
-    is
-
 -- ---- the parser
 
-pub run-fault : (includes i1 i2 inputs j1 j2 : List (String Global)) (names n1 : List ProtoPathBuf)
-    (f : RunFault) → i1 ≡ includes → i2 ≡ includes → j1 ≡ inputs → j2 ≡ inputs → n1 ≡ names
+pub run-fault : (bundled : List (Text × Text)) (includes i1 inputs j1 : List (String Global))
+    (names n1 : List ProtoPathBuf) (f : RunFault) → i1 ≡ includes → j1 ≡ inputs → n1 ≡ names
     → AreNamed (map string_bytes i1) (map string_bytes j1) (map path_buf_text names)
-    → RanOverFolders (map string_bytes i2) (map string_bytes j2) (map path_buf_text n1) (Err f)
-    → TellsFault (map string_bytes includes) (map string_bytes inputs) f
-run-fault includes i1 i2 inputs j1 j2 names n1 f a b c d e named (inr m) = inr m
-run-fault includes i1 i2 inputs j1 j2 names n1 f a b c d e named (inl h) =
-    inl (inr (map path_buf_text names, (rw (a, c) at named), (rw (b, d, e) at h)))
+    → RanOverFolders bundled (map string_bytes includes) (map string_bytes inputs)
+    (map path_buf_text n1) (Err f)
+    → TellsFault bundled (map string_bytes includes) (map string_bytes inputs) f
+run-fault bundled includes i1 inputs j1 names n1 f a c e named (inr m) = inr m
+run-fault bundled includes i1 inputs j1 names n1 f a c e named (inl h) =
+    inl (inr (map path_buf_text names, (rw (a, c) at named), (rw e at h)))
 
 pub run-names : (includes i1 inputs j1 : List (String Global)) (names : List Text) → i1 ≡ includes
     → j1 ≡ inputs → AreNamed (map string_bytes i1) (map string_bytes j1) names
     → AreNamed (map string_bytes includes) (map string_bytes inputs) names
 run-names includes i1 inputs j1 names a c named = rw (a, c) at named
 
-pub run-files : (includes i2 inputs j2 : List (String Global)) (names n1 : List ProtoPathBuf)
-    (files : Vec FileDescriptorProto) → i2 ≡ includes → j2 ≡ inputs → n1 ≡ names
-    → RanOverFolders (map string_bytes i2) (map string_bytes j2) (map path_buf_text n1) (Ok files)
-    → RunsOverFolders (map string_bytes includes) (map string_bytes inputs)
-    (map path_buf_text names) (Ok files)
-run-files includes i2 inputs j2 names n1 files b d e h = rw (b, d, e) at h
+pub run-files : (bundled : List (Text × Text)) (includes inputs : List Text)
+    (names n1 : List ProtoPathBuf) (files : Vec FileDescriptorProto) → n1 ≡ names
+    → RanOverFolders bundled includes inputs (map path_buf_text n1) (Ok files)
+    → RunsOverFolders bundled includes inputs (map path_buf_text names) (Ok files)
+run-files bundled includes inputs names n1 files e h = rw e at h
 
 pub set-of : (found : List FileDescriptorProto) (n1 n2 : List ProtoPathBuf)
     (f1 f2 : List FileDescriptorProto) → found ≡ filter (is_of_input (map path_buf_text n1)) f1

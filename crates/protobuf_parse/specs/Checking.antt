@@ -6,31 +6,31 @@ use Rattle.protobuf_parse_run.specs.declared.fault.RunFault.{RunFault}
 use Rattle.protobuf_parse_run.specs.declared.log.FileReport.{FileReport}
 use Rattle.protobuf_parse_run.specs.declared.log.ReadEntry.{ReadEntry}
 use Rattle.protobuf_parse_run.specs.Checks.{ChecksAsTold}
-use Rattle.protobuf_parse_run.specs.Run.{HaveLists, HaveTrees, MayAnswer, OrMemory, shipped}
+use Rattle.protobuf_parse_run.specs.Run.{HaveLists, HaveTrees, MayAnswer, OrMemory}
 use Rattle.protobuf_parse.specs.Includes.{AreNamed, StandsAtFirst}
 use Rattle.protobuf_parse.specs.Folders.{MayFind}
 use Rattle.protobuf_parse.specs.Parsers.{MayReadAnything, inputs_at}
 
--- A check of these inputs by these names, whose imports are found in these includes and among the
--- files that this library brings, read some log and ended so.
-pub record ChecksOverFolders (includes inputs names : List Text)
+-- A check of these inputs by these names, whose imports are found in these includes and among
+-- these bundled files, read some log and ended so.
+pub record ChecksOverFolders (bundled : List (Text × Text)) (includes inputs names : List Text)
     (result : Result (Vec FileReport) RunFault) : Type 0 where
   pub log : List ReadEntry
-  pub trees : HaveTrees shipped log
-  pub lists : HaveLists shipped log
+  pub trees : HaveTrees bundled log
+  pub lists : HaveLists bundled log
   pub told : ChecksAsTold (MayAnswer (MayFind includes) MayReadAnything) (inputs_at names inputs)
-      shipped log result
+      bundled log result
 
 -- each input has its proto path, and these are the reports of the check over them
-abbrev pub AreReported : List Text → List Text → Vec FileReport → Type 0
-AreReported includes inputs reports =
+abbrev pub AreReported : List (Text × Text) → List Text → List Text → Vec FileReport → Type 0
+AreReported bundled includes inputs reports =
     (names : List Text) × AreNamed includes inputs names
-    × ChecksOverFolders includes inputs names (Ok reports)
+    × ChecksOverFolders bundled includes inputs names (Ok reports)
 
 -- No reports: memory ran out, or the fault stands for the first input that gets no proto path, or
 -- each input gets its proto path and the check over them ended with the fault.
-abbrev pub TellsCheckFault : List Text → List Text → RunFault → Type 0
-TellsCheckFault includes inputs f =
+abbrev pub TellsCheckFault : List (Text × Text) → List Text → List Text → RunFault → Type 0
+TellsCheckFault bundled includes inputs f =
     OrMemory f (StandsAtFirst includes inputs f
     ⊎ ((names : List Text) × AreNamed includes inputs names
-    × ChecksOverFolders includes inputs names (Err f)))
+    × ChecksOverFolders bundled includes inputs names (Err f)))

@@ -11,16 +11,17 @@ use Rattle.protobuf_parse.specs.Checking.{ChecksOverFolders}
 use Rattle.protobuf_parse.specs.Parsers.{RunsOverFolders}
 
 -- or memory ran out
-abbrev pub CheckedOverFolders : List Text → List Text → List Text
+abbrev pub CheckedOverFolders : List (Text × Text) → List Text → List Text → List Text
     → Result (Vec FileReport) RunFault → Type 0
-CheckedOverFolders includes inputs names (Ok reports) =
-    ChecksOverFolders includes inputs names (Ok reports)
-CheckedOverFolders includes inputs names (Err f) =
-    OrMemory f (ChecksOverFolders includes inputs names (Err f))
+CheckedOverFolders bundled includes inputs names (Ok reports) =
+    ChecksOverFolders bundled includes inputs names (Ok reports)
+CheckedOverFolders bundled includes inputs names (Err f) =
+    OrMemory f (ChecksOverFolders bundled includes inputs names (Err f))
 
 -- or memory ran out
-abbrev pub RanOverFolders : List Text → List Text → List Text
+abbrev pub RanOverFolders : List (Text × Text) → List Text → List Text → List Text
     → Result (Vec FileDescriptorProto) RunFault → Type 0
-RanOverFolders includes inputs names (Ok files) = RunsOverFolders includes inputs names (Ok files)
-RanOverFolders includes inputs names (Err f) =
-    OrMemory f (RunsOverFolders includes inputs names (Err f))
+RanOverFolders bundled includes inputs names (Ok files) =
+    RunsOverFolders bundled includes inputs names (Ok files)
+RanOverFolders bundled includes inputs names (Err f) =
+    OrMemory f (RunsOverFolders bundled includes inputs names (Err f))

@@ -8,7 +8,7 @@ pub mod trees;
 
 pub use laws::numbers_are_apart_in_runs;
 pub use parser::{
-    FsReader, FsResolver, ParsedAndTypechecked, Parser, fs_resolver, program, proto_path_of,
+    FsReader, FsResolver, ParsedAndTypechecked, Parser, fs_resolver, program, proto_path_of, search,
 };
 pub use protobuf_parse_base::Name;
 pub use protobuf_parse_base::names::laws::{

@@ -4,7 +4,7 @@ mod builder;
 mod command;
 mod files;
 mod includes;
-mod search;
+pub mod search;
 
 pub use builder::{ParsedAndTypechecked, Parser};
 pub use command::program;

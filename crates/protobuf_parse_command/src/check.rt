@@ -37,7 +37,7 @@ pub fn check_files<R: Files + AllocGlobal>(
     let given = inputs_of(rt, alloc, arguments, &mut told)?;
     let inputs = names_of(alloc, &given)?;
     let folders = Folders::of(rt, alloc, &arguments.includes)?;
-    let (log, is_cut) = run_over(rt, alloc, &folders, given, &mut told)?;
+    let (log, is_cut) = run_over(alloc, &folders, given, &mut told)?;
     let RunLog {
         reads,
         meets: _,
@@ -49,7 +49,7 @@ pub fn check_files<R: Files + AllocGlobal>(
             files
         }
         Err(fault) => {
-            told.push(told_of_reads(rt, alloc, &reads, &fault)?)?;
+            told.push(told_of_reads(alloc, &folders, &reads, &fault)?)?;
             Vec::new(alloc)
         }
     };
@@ -65,7 +65,6 @@ pub fn check_files<R: Files + AllocGlobal>(
 /// The run over the inputs. Where it has a fault, all that is wrong is told, and the run is that
 /// over the inputs that reach nothing wrong. Answers also whether there may be more to tell.
 fn run_over<R: Files + AllocGlobal>(
-    rt: &R,
     alloc: Global,
     folders: &Folders<'_, R>,
     inputs: Vec<RunInput>,
@@ -78,7 +77,7 @@ fn run_over<R: Files + AllocGlobal>(
     if ran_out(&log) {
         return Err(AllocError);
     }
-    let mut faults = faults_of(rt, alloc, folders, inputs)?;
+    let mut faults = faults_of(alloc, folders, inputs)?;
     told.append(&mut faults.told)?;
     Ok((folders.run(alloc, &faults.sound), faults.is_cut))
 }
@@ -89,18 +88,17 @@ fn ran_out(log: &RunLog) -> bool {
 }
 
 /// The inputs that the files of the command line are, and what is told of those that are none.
-fn inputs_of<R: Files + AllocGlobal>(
+fn inputs_of<R: Files>(
     rt: &R,
     alloc: Global,
     arguments: &Arguments,
     told: &mut Vec<Diagnostic>,
 ) -> Result<Vec<RunInput>, AllocError> {
-    let none = Sources::of_reads(alloc, &[], &[])?;
     let mut inputs = Vec::new(alloc);
     for file in &arguments.files {
-        match input_of(rt, alloc, &arguments.includes, file) {
+        match input_of(rt, alloc, &arguments.includes, file)? {
             Ok(input) => inputs.push(input)?,
-            Err(fault) => told.push(fault_told(rt, alloc, &none, &fault)?)?,
+            Err(fault) => told.push(fault)?,
         }
     }
     Ok(inputs)
@@ -108,13 +106,13 @@ fn inputs_of<R: Files + AllocGlobal>(
 
 /// What is told of the fault of a run with these reads.
 fn told_of_reads<R: Files + AllocGlobal>(
-    rt: &R,
     alloc: Global,
+    folders: &Folders<'_, R>,
     reads: &[ReadEntry],
     fault: &RunFault,
 ) -> Result<Diagnostic, AllocError> {
     let sources = Sources::of_reads(alloc, reads, google_files())?;
-    fault_told(rt, alloc, &sources, fault)
+    fault_told(folders, alloc, &sources, fault)
 }
 
 /// The proto paths of the inputs.

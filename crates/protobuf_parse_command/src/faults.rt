@@ -30,7 +30,6 @@ pub struct Faults {
 /// that do reach it. So are those that don't reach what ends a check. The one error is that memory
 /// is short.
 pub fn faults_of<R: Files + AllocGlobal>(
-    rt: &R,
     alloc: Global,
     folders: &Folders<'_, R>,
     inputs: Vec<RunInput>,
@@ -42,7 +41,7 @@ pub fn faults_of<R: Files + AllocGlobal>(
         affected: BTreeSet::new(alloc),
         beside: BTreeSet::new(alloc),
     };
-    state.tell_faults(rt, alloc, &survey.reads, &survey.reads, &survey.faults)?;
+    state.tell_faults(alloc, folders, &survey.reads, &survey.reads, &survey.faults)?;
     for _ in 0..MOST_CHECKS {
         let CheckLog {
             reads,
@@ -56,7 +55,7 @@ pub fn faults_of<R: Files + AllocGlobal>(
             }
             Err(fault) => {
                 let ended = slice::from_ref(&fault);
-                state.tell_faults(rt, alloc, &reads, &survey.reads, ended)?;
+                state.tell_faults(alloc, folders, &reads, &survey.reads, ended)?;
             }
         }
     }
@@ -93,8 +92,8 @@ impl State {
     /// Tells the faults, which these reads met. `all` are the reads of all that the inputs reach.
     fn tell_faults<R: Files + AllocGlobal>(
         &mut self,
-        rt: &R,
         alloc: Global,
+        folders: &Folders<'_, R>,
         reads: &[ReadEntry],
         all: &[ReadEntry],
         faults: &[RunFault],
@@ -103,7 +102,7 @@ impl State {
             return Ok(());
         }
         let sources = Sources::of_reads(alloc, reads, google_files())?;
-        let mut told = faults_told(rt, alloc, &sources, faults)?;
+        let mut told = faults_told(folders, alloc, &sources, faults)?;
         self.told.append(&mut told)?;
         let mut paths: Vec<&str> = Vec::new(alloc);
         let mut own_paths: BTreeSet<&str> = BTreeSet::new(alloc);

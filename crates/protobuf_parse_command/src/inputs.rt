@@ -1,25 +1,44 @@
 //! Where the files of a command line lie, and their proto paths.
 
+use crate::shadow::{shadow_of, shadow_told};
 use protobuf_parse::{ProtoPath, ProtoPathBuf, RunFault, RunInput, proto_path_of};
+use protobuf_parse_diagnostics::{Diagnostic, Sources, fault_diagnostic};
 use std::alloc::{AllocError, Global};
 use std::fs;
 use std::rt::Files;
 
 /// The input of a run for this file: at its own path where it lies below an include; else by its
-/// proto path where an include has that.
+/// proto path where an include has that. Or what is told of a file that is none: L3 where no
+/// include has it, L11 where what follows the include is no proto path, L6 where it is shadowed.
+/// No file is opened.
 ///
-/// The error is L3 where no include has it, L11 where what follows the include is no proto path, or
-/// want of memory.
+/// The one error is that memory is short.
 pub fn input_of<R: Files>(
     rt: &R,
     alloc: Global,
     includes: &[String],
     file: &str,
-) -> Result<RunInput, RunFault> {
-    match fs::exists(rt, file) {
+) -> Result<Result<RunInput, Diagnostic>, AllocError> {
+    let found = match fs::exists(rt, file) {
         Ok(false) => missing_input(alloc, includes, file),
         Ok(true) | Err(_) => present_input(rt, alloc, includes, file),
+    };
+    match found {
+        Ok(RunInput::At { name, fs_path }) => {
+            match shadow_of(rt, alloc, includes, file, name.as_path())? {
+                Some(other) => Ok(Err(shadow_told(alloc, file, &other)?)),
+                None => Ok(Ok(RunInput::At { name, fs_path })),
+            }
+        }
+        Ok(named) => Ok(Ok(named)),
+        Err(fault) => Ok(Err(fault_of_input(alloc, &fault)?)),
     }
+}
+
+/// What is told of a file that is no input, want of memory as an error.
+fn fault_of_input(alloc: Global, fault: &RunFault) -> Result<Diagnostic, AllocError> {
+    let none = Sources::of_reads(alloc, &[], &[])?;
+    fault_diagnostic(alloc, &none, fault)
 }
 
 /// A file that lies where its text says.

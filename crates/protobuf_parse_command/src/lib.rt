@@ -6,11 +6,13 @@ mod check;
 mod faults;
 mod inputs;
 mod listed;
-mod output;
+mod made;
 mod reading;
 mod run;
+mod shadow;
 mod survey;
 mod told;
 mod unread;
+mod words;
 
-pub use run::command;
+pub use run::{command, run_program};

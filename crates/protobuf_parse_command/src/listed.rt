@@ -32,9 +32,9 @@ pub fn imports_of_files<R: Files + AllocGlobal>(
         text: String::new(alloc),
     };
     for file in &arguments.files {
-        match input_of(rt, alloc, &arguments.includes, file) {
-            Ok(input) => add_input(rt, alloc, &folders, file, &input, &mut imports)?,
-            Err(fault) => add_fault(rt, alloc, &[], &fault, &mut imports)?,
+        match input_of(rt, alloc, &arguments.includes, file)? {
+            Ok(input) => add_input(alloc, &folders, file, &input, &mut imports)?,
+            Err(told) => imports.told.push(told)?,
         }
     }
     arrange(&mut imports.told)?;
@@ -42,19 +42,20 @@ pub fn imports_of_files<R: Files + AllocGlobal>(
 }
 
 fn add_fault<R: Files + AllocGlobal>(
-    rt: &R,
     alloc: Global,
+    folders: &Folders<'_, R>,
     reads: &[ReadEntry],
     fault: &RunFault,
     imports: &mut Imports,
 ) -> Result<(), AllocError> {
     let sources = Sources::of_reads(alloc, reads, google_files())?;
-    imports.told.push(fault_told(rt, alloc, &sources, fault)?)?;
+    imports
+        .told
+        .push(fault_told(folders, alloc, &sources, fault)?)?;
     Ok(())
 }
 
 fn add_input<R: Files + AllocGlobal>(
-    rt: &R,
     alloc: Global,
     folders: &Folders<'_, R>,
     file: &str,
@@ -64,7 +65,7 @@ fn add_input<R: Files + AllocGlobal>(
     let InputRead { entry, tree } = folders.read(alloc, input)?;
     match tree {
         Ok(tree) => put_imports(&mut imports.text, file, &tree),
-        Err(fault) => add_fault(rt, alloc, slice::from_ref(&entry), &fault, imports),
+        Err(fault) => add_fault(alloc, folders, slice::from_ref(&entry), &fault, imports),
     }
 }
 

@@ -1,46 +1,144 @@
 //! The files of a command line, and what they import: by runs, by checks, and one at a time.
 
+ghost use Rattle.std.specs.Prelude.{Some, map, string_bytes};
+ghost use Rattle.protobuf_parse.specs.Folders.{IsTriedAt, MayFind, path_tried};
+
+use protobuf_parse::search::{LooksInIncludes, first_found, join_include};
 use protobuf_parse::{
-    CheckLog, FsReader, FsResolver, RunInput, RunLog, check_inputs, fs_resolver, google_files,
-    run_inputs,
+    CheckLog, InputReader, ProtoPath, ProtoPathResolver, ReadInputFault, ResolveFault,
+    ResolvedProtoFile, RunInput, RunLog, check_inputs, fs_resolver, google_files, run_inputs,
 };
+use protobuf_parse_files::{FileRead, KeptFiles};
 use protobuf_parse_run::{InputRead, read_input};
 use std::alloc::{AllocError, Global};
+use std::fmt;
+use std::io::{self, ErrorKind};
 use std::rt::Files;
 
-/// What is asked for files.
+/// The most bytes that a text may have.
+const MOST_BYTES: usize = 2147483647;
+
+/// What is asked for files: folders, and the files of the host by their paths. Each path is opened
+/// and read once, whatever is asked.
+///
+/// An include in which a folder stands in place of the file, or a file in place of a folder, has no
+/// such file, and the next include is asked.
 #[derive(Drop)]
 pub struct Folders<'r, R> {
-    resolver: FsResolver<'r, R>,
-    reader: FsReader<'r, R>,
+    includes: Vec<String>,
+    /// As faults list the includes.
+    listed: String,
+    files: KeptFiles<'r, R>,
 }
 
 impl<'r, R: Files + AllocGlobal> Folders<'r, R> {
-    /// The includes, and the files of the host by their paths. The one error is that memory is
-    /// short.
+    /// Nothing is read yet. The one error is that memory is short.
     pub fn of(rt: &'r R, alloc: Global, includes: &[String]) -> Result<Self, AllocError> {
-        let mut folders: Vec<&str> = Vec::new(alloc);
+        let mut names: Vec<&str> = Vec::new(alloc);
+        let mut copies = Vec::new(alloc);
         for include in includes {
-            folders.push(include.as_str())?;
+            names.push(include.as_str())?;
+            copies.push(include.clone()?)?;
         }
+        let resolver = fs_resolver(rt, alloc, &names)?;
         Ok(Folders {
-            resolver: fs_resolver(rt, alloc, &folders)?,
-            reader: FsReader::new(rt),
+            includes: copies,
+            listed: format!(in alloc; "{resolver}")?,
+            files: KeptFiles::new(rt, alloc, MOST_BYTES),
         })
     }
 
     /// The run over these inputs.
     pub fn run(&self, alloc: Global, inputs: &[RunInput]) -> RunLog {
-        run_inputs(alloc, inputs, &self.resolver, &self.reader, google_files())
+        run_inputs(alloc, inputs, &*self, &*self, google_files())
     }
 
     /// The check of these inputs.
     pub fn check(&self, alloc: Global, inputs: &[RunInput]) -> CheckLog {
-        check_inputs(alloc, inputs, &self.resolver, &self.reader, google_files())
+        check_inputs(alloc, inputs, &*self, &*self, google_files())
     }
 
     /// Reads an input: by the resolver, or at its own path. The one error is that memory is short.
     pub fn read(&self, alloc: Global, input: &RunInput) -> Result<InputRead, AllocError> {
-        read_input(alloc, input, &self.resolver, &self.reader, google_files())
+        read_input(alloc, input, &*self, &*self, google_files())
     }
+
+    /// Why the file of this path could not be read, if it was asked for and couldn't.
+    pub fn reason(&self, path: &str) -> Option<io::Error> {
+        self.files.reason(path)
+    }
+
+    /// Whether the file of this path was asked for, and left because it has more bytes than a text
+    /// may have.
+    pub fn is_too_long(&self, path: &str) -> bool {
+        self.files.is_too_long(path)
+    }
+}
+
+impl<'r, R> fmt::Display for Folders<'r, R> {
+    ghost output = { λ f. Some (string_bytes f.listed) };
+
+    fn fmt<W: fmt::Write>(&self, f: &mut fmt::Formatter<W>) -> fmt::Result {
+        f.write_str(self.listed.as_str())
+    }
+}
+
+impl<'r, R: Files + AllocGlobal> ProtoPathResolver for Folders<'r, R> {
+    ghost may_answer = { λ f path answer. MayFind (map string_bytes f.includes.items) path answer };
+
+    fn resolve(
+        &self,
+        alloc: Global,
+        path: ProtoPath<'_>,
+    ) -> Result<Option<ResolvedProtoFile>, ResolveFault> {
+        first_found(self, alloc, &self.includes, path)
+    }
+}
+
+impl<'r, R: Files + AllocGlobal> LooksInIncludes for Folders<'r, R> {
+    ghost may_find = { λ _ include path answer. IsTriedAt (path_tried include path) answer };
+
+    fn look_in(
+        &self,
+        alloc: Global,
+        include: &str,
+        path: ProtoPath<'_>,
+    ) -> Result<Option<ResolvedProtoFile>, ResolveFault> {
+        let Ok(file) = join_include(alloc, include, path) else {
+            return Err(ResolveFault::Memory);
+        };
+        match self.files.read(alloc, &file) {
+            Ok(FileRead::Content(content)) => Ok(Some(ResolvedProtoFile {
+                path: file,
+                content,
+            })),
+            Ok(FileRead::Failed(error)) if is_no_file(error.kind()) => Ok(None),
+            Ok(FileRead::Failed(_) | FileRead::TooLong) => Err(ResolveFault::CouldNotRead(file)),
+            Err(_) => Err(ResolveFault::Memory),
+        }
+    }
+}
+
+impl<'r, R: Files + AllocGlobal> InputReader for Folders<'r, R> {
+    ghost may_read = { λ _ _ _. Unit {0} };
+
+    fn read(&self, alloc: Global, path: &str) -> Result<Vec<u8>, ReadInputFault> {
+        match self.files.read(alloc, path) {
+            Ok(FileRead::Content(content)) => Ok(content),
+            Ok(FileRead::Failed(error)) if error.kind() == ErrorKind::NotFound => {
+                Err(ReadInputFault::NotFound)
+            }
+            Ok(FileRead::Failed(_) | FileRead::TooLong) => Err(ReadInputFault::Failed),
+            Err(_) => Err(ReadInputFault::Memory),
+        }
+    }
+}
+
+/// Whether a call that failed so says that no file has its path: nothing does, or a folder, or a
+/// file stands where a folder should.
+fn is_no_file(kind: ErrorKind) -> bool {
+    matches!(
+        kind,
+        ErrorKind::NotFound | ErrorKind::NotADirectory | ErrorKind::IsADirectory
+    )
 }

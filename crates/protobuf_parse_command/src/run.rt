@@ -3,34 +3,50 @@
 ghost use Rattle.std.specs.Prelude.{◌≤◌, IfOk};
 
 use crate::arguments::{Arguments, arguments_of};
-use crate::check::{Checked, check_files};
-use crate::listed::imports_of_files;
-use crate::output::write_file;
-use crate::told::{has_error, tell};
-use protobuf_parse::{FileDescriptorProto, listing};
-use protobuf_parse_descriptor_set::descriptor_set;
+use crate::made::{Made, make};
+use crate::words::{NoWords, words_of};
+use clap::error::ErrorKind as WordsFault;
+use protobuf_parse_files::write_file;
 use std::alloc::{AllocError, Global};
-use std::collections::BTreeSet;
-use std::io::{self, Write};
-use std::rt::Files;
-use thiserror::Error;
+use std::io::{self, ErrorKind, Write};
+use std::rt::{Env, Files};
+
+/// What is told where memory is short, which takes none.
+const OUT_OF_MEMORY: &str = "protobuf_parse_cli: out of memory\n";
 
 /// Why the command ends with status 1 and no diagnostics.
-#[derive(Debug, Drop, Error)]
-enum Failure {
-    #[error("out of memory")]
+#[derive(Drop)]
+enum Failure<'a> {
     Memory,
     /// Standard output takes no more.
-    #[error("could not write the output: {0}")]
     Output(io::Error),
-    /// The file of the descriptor set.
-    #[error("could not write `{0}`: {1}")]
-    File(String, io::Error),
+    /// The file of the descriptor set can't be written.
+    File(&'a str, io::Error),
 }
 
-impl From<AllocError> for Failure {
-    fn from(_error: AllocError) -> Failure {
+impl<'a> From<AllocError> for Failure<'a> {
+    fn from(_error: AllocError) -> Failure<'a> {
         Failure::Memory
+    }
+}
+
+/// The program `protobuf_parse_cli`: [`command`] with the words that the process was given. One
+/// that is not UTF-8 is told, and the status is 2.
+pub fn run_program<R: Env + Files + AllocGlobal, O: Write, E: Write>(
+    rt: &R,
+    out: &mut O,
+    err: &mut E,
+) -> u8
+    ensures status { result ≤ 2 }
+{
+    match words_of(rt) {
+        Ok(words) => command(rt, &words, out, err),
+        Err(NoWords::Memory) => tell_failure(err, &Failure::Memory),
+        Err(NoWords::NotUtf8(word)) => {
+            // Nothing is left to tell where even this line can't be written.
+            let _ = writeln!(err, "protobuf_parse_cli: error: {word:?} is not UTF-8");
+            2
+        }
     }
 }
 
@@ -39,7 +55,8 @@ impl From<AllocError> for Failure {
 ///
 /// The status is 0 where all went well, 1 where an error was told, and 2 where the arguments are
 /// wrong. Each error and each warning is one line. All output is made before any is written; where
-/// an error is told, no output is.
+/// an error is told, no output is. Where memory is short, one line says so, and nothing else is
+/// written.
 pub fn command<R: Files + AllocGlobal, O: Write, E: Write>(
     rt: &R,
     args: &[String],
@@ -49,155 +66,128 @@ pub fn command<R: Files + AllocGlobal, O: Write, E: Write>(
     ensures status { result ≤ 2 }
 {
     let alloc = rt.alloc();
-    let arguments = match arguments_of(alloc, args) {
-        Ok(arguments) => arguments,
-        Err(error) => return answer_words(alloc, &error, out, err),
-    };
-    let done = if arguments.imports {
-        tell_imports(rt, alloc, &arguments, out, err)
-    } else {
-        check(rt, alloc, &arguments, out, err)
-    };
-    match done {
-        Ok(status) => status,
-        Err(failure) => {
-            // Nothing is left to tell where even this line can't be written.
-            let _ = writeln!(err, "protobuf_parse_cli: error: {failure}");
-            1
-        }
+    match arguments_of(alloc, args) {
+        Ok(arguments) => match perform(rt, alloc, &arguments, out, err) {
+            Ok(status) => status,
+            Err(failure) => tell_failure(err, &failure),
+        },
+        Err(error) => match answer_words(alloc, &error, out, err) {
+            Ok(status) => status,
+            Err(failure) => tell_failure(err, &failure),
+        },
     }
 }
 
+/// Tells a failure, and answers the status.
+fn tell_failure<E: Write>(err: &mut E, failure: &Failure<'_>) -> u8
+    ensures status { result ≤ 1 }
+{
+    // Nothing is left to tell where even this line can't be written.
+    let _ = match failure {
+        Failure::Memory => err.write_all(OUT_OF_MEMORY.as_bytes()),
+        Failure::Output(error) => {
+            writeln!(
+                err,
+                "protobuf_parse_cli: error: could not write the output: {error}"
+            )
+        }
+        Failure::File(path, error) => {
+            writeln!(
+                err,
+                "protobuf_parse_cli: error: could not write `{path}`: {error}"
+            )
+        }
+    };
+    1
+}
+
 /// Tells what is wrong with the arguments, or the help or the version that they ask for.
-fn answer_words<O: Write, E: Write>(
+fn answer_words<'a, O: Write, E: Write>(
     alloc: Global,
     error: &clap::Error,
     out: &mut O,
     err: &mut E,
-) -> u8
-    ensures status { result ≤ 2 }
+) -> Result<u8, Failure<'a>>
+    ensures status { IfOk result (λ status. status ≤ 2) }
 {
-    let Ok(text) = format!(in alloc; "{error}") else {
-        let _ = writeln!(err, "protobuf_parse_cli: error: out of memory");
-        return 1;
-    };
+    if error.kind() == WordsFault::OutOfMemory {
+        return Err(Failure::Memory);
+    }
+    let text = format!(in alloc; "{error}")?;
     if error.use_stderr() {
         let _ = err.write_all(text.as_bytes());
-        return 2;
+        return Ok(2);
     }
-    match write_text(out, &text) {
-        Ok(()) => 0,
-        Err(failure) => {
-            let _ = writeln!(err, "protobuf_parse_cli: error: {failure}");
-            1
-        }
-    }
+    write_text(out, &text)?;
+    Ok(0)
 }
 
-/// `--imports`.
-fn tell_imports<R: Files + AllocGlobal, O: Write, E: Write>(
+/// Makes what is asked for, and then writes it.
+fn perform<'a, R: Files + AllocGlobal, O: Write, E: Write>(
     rt: &R,
     alloc: Global,
-    arguments: &Arguments,
+    arguments: &'a Arguments,
     out: &mut O,
     err: &mut E,
-) -> Result<u8, Failure>
+) -> Result<u8, Failure<'a>>
     ensures status { IfOk result (λ status. status ≤ 1) }
 {
-    let imports = imports_of_files(rt, alloc, arguments)?;
-    let told = tell(alloc, err, &imports.told, false);
-    if has_error(&imports.told) {
+    let made = make(rt, alloc, arguments)?;
+    let is_set_written = write_set(rt, arguments, &made, out, err);
+    if let Err(Failure::Memory) = is_set_written {
+        return Err(Failure::Memory);
+    }
+    let is_told = write_all(err, &made.told);
+    is_set_written?;
+    if made.has_error {
         return Ok(1);
     }
-    write_text(out, &imports.text)?;
-    Ok(status_of(&told))
+    write_text(out, &made.text)?;
+    Ok(status_of(&is_told))
 }
 
-/// Checks the files, and writes what is asked for.
-fn check<R: Files + AllocGlobal, O: Write, E: Write>(
+/// Writes the descriptor set to its file, where one is asked for. That comes before all else that
+/// is written, since it may take memory before it writes.
+fn write_set<'a, R: Files + AllocGlobal, O: Write, E: Write>(
     rt: &R,
-    alloc: Global,
-    arguments: &Arguments,
+    arguments: &'a Arguments,
+    made: &Made,
     out: &mut O,
     err: &mut E,
-) -> Result<u8, Failure>
-    ensures status { IfOk result (λ status. status ≤ 1) }
-{
-    let Checked {
-        told,
-        is_cut,
-        files,
-        inputs,
-    } = check_files(rt, alloc, arguments)?;
-    let written = tell(alloc, err, &told, is_cut);
-    if has_error(&told) {
-        return Ok(1);
-    }
-    let text = if arguments.list {
-        Some(listing(alloc, &files)?)
-    } else {
-        None
+) -> Result<(), Failure<'a>> {
+    let (Some(path), Some(set)) = (&arguments.set_path, &made.set) else {
+        return Ok(());
     };
-    if let Some(path) = &arguments.set_path {
-        let bytes = set_of(alloc, arguments, files, &inputs)?;
-        put_file(rt, alloc, path, &bytes)?;
+    match write_file(rt, path, set, out, err) {
+        Ok(()) => Ok(()),
+        Err(error) if error.kind() == ErrorKind::OutOfMemory => Err(Failure::Memory),
+        Err(error) => Err(Failure::File(path, error)),
     }
-    if let Some(text) = &text {
-        write_text(out, text)?;
-    }
-    Ok(status_of(&written))
 }
 
 /// The status where no error was told: 1 where not even warnings could be.
-fn status_of(told: &io::Result<()>) -> u8
+fn status_of(is_told: &io::Result<()>) -> u8
     ensures status { result ≤ 1 }
 {
-    match told {
+    match is_told {
         Ok(()) => 0,
         Err(_) => 1,
     }
 }
 
-/// The descriptor set of the inputs, or with imports of all files.
-fn set_of(
-    alloc: Global,
-    arguments: &Arguments,
-    files: Vec<FileDescriptorProto>,
-    inputs: &BTreeSet<String>,
-) -> Result<Vec<u8>, AllocError> {
-    if arguments.include_imports {
-        return descriptor_set(alloc, &files);
-    }
-    let mut kept = Vec::new(alloc);
-    for file in files {
-        if is_input(inputs, &file) {
-            kept.push(file)?;
-        }
-    }
-    descriptor_set(alloc, &kept)
-}
-
-fn is_input(inputs: &BTreeSet<String>, file: &FileDescriptorProto) -> bool {
-    match &file.name {
-        Some(name) => inputs.contains(name.as_str()),
-        None => false,
-    }
-}
-
-fn put_file<R: Files>(rt: &R, alloc: Global, path: &str, content: &[u8]) -> Result<(), Failure> {
-    match write_file(rt, alloc, path, content) {
-        Ok(()) => Ok(()),
-        Err(error) => Err(Failure::File(String::from_str(alloc, path)?, error)),
-    }
-}
-
 /// Writes the text, all of it or an error.
-fn write_text<O: Write>(out: &mut O, text: &str) -> Result<(), Failure> {
-    match out.write_all(text.as_bytes()) {
-        Ok(()) => match out.flush() {
-            Ok(()) => Ok(()),
-            Err(error) => Err(Failure::Output(error)),
-        },
+fn write_text<'a, O: Write>(out: &mut O, text: &str) -> Result<(), Failure<'a>> {
+    match write_all(out, text) {
+        Ok(()) => Ok(()),
+        Err(error) if error.kind() == ErrorKind::OutOfMemory => Err(Failure::Memory),
         Err(error) => Err(Failure::Output(error)),
     }
+}
+
+fn write_all<W: Write>(writer: &mut W, text: &str) -> io::Result<()> {
+    if text.is_empty() {
+        return Ok(());
+    }
+    writer.write_all(text.as_bytes())?;
+    writer.flush()
 }

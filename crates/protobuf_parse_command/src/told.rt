@@ -2,7 +2,6 @@
 
 use protobuf_parse_diagnostics::{Diagnostic, Severity};
 use std::alloc::{AllocError, Global};
-use std::io::{self, Write};
 
 /// How many diagnostics are told.
 const MOST_TOLD: usize = 1000;
@@ -12,23 +11,9 @@ pub fn has_error(told: &[Diagnostic]) -> bool {
     told.iter().any(|each| each.severity == Severity::Error)
 }
 
-/// Writes a line for each of the first 1,000, and then one that says how many more there are, or
-/// that there may be more.
-pub fn tell<E: Write>(
-    alloc: Global,
-    err: &mut E,
-    told: &[Diagnostic],
-    is_cut: bool,
-) -> io::Result<()> {
-    if told.is_empty() {
-        return Ok(());
-    }
-    let text = lines_of(alloc, told, is_cut)?;
-    err.write_all(text.as_bytes())?;
-    err.flush()
-}
-
-fn lines_of(alloc: Global, told: &[Diagnostic], is_cut: bool) -> Result<String, AllocError> {
+/// A line for each of the first 1,000, and then one that says how many more there are, or that
+/// there may be more.
+pub fn lines_of(alloc: Global, told: &[Diagnostic], is_cut: bool) -> Result<String, AllocError> {
     let mut text = String::new(alloc);
     for each in told.iter().take(MOST_TOLD) {
         write!(text, "{each}\n")?;

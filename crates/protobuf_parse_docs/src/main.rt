@@ -18,6 +18,7 @@ fn run<R: Runtime<A = std::alloc::Global>>(rt: &R) -> Result<()> {
         .next()
         .context("usage: protobuf_parse_docs <include> <input.proto>..")?;
     let mut parser = Parser::new(rt.alloc());
+    parser.google_files();
     parser.push_include(&include)?;
     for input in args {
         parser.push_input(&input)?;

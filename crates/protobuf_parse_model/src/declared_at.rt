@@ -1,7 +1,9 @@
 //! What a file declares, by full name, in the order of its text.
 
 ghost use Rattle.std.specs.Prelude.{◌≡◌, ◌&&◌, ◌++◌, ◌∷◌, [], map, flat_map, IfOk, OnOk};
-ghost use Rattle.std.specs.Prelude.{bytes_eq, string_bytes};
+ghost use Rattle.std.specs.BTreeMap.{get_by_text};
+ghost use Rattle.std.specs.Prelude.{List, ℕ, bytes_eq, string_bytes};
+ghost use Rattle.protobuf_parse_model.specs.Descriptors.{Text};
 ghost use Rattle.protobuf_parse_syntax.specs.Trees as tree;
 ghost use Rattle.protobuf_parse_syntax.specs.Trees.{extend_syntax, field_statement_syntax};
 ghost use Rattle.protobuf_parse_syntax.specs.Trees.{field_syntax, file_syntax};
@@ -26,6 +28,7 @@ use protobuf_parse_syntax::{
     OneOfStatement, Type,
 };
 use std::alloc::{AllocError, Global};
+use std::collections::BTreeMap;
 
 /// Something that a file declares.
 #[derive(Drop)]
@@ -56,6 +59,26 @@ pub fn last_declared(
         }
     }
     Ok(found)
+}
+
+/// Where the last declaration in the file of each full name begins: of extensions, or else of
+/// messages and enums, as [`last_declared`] says of one name. The one error is that memory is
+/// short.
+pub fn last_places(
+    alloc: Global,
+    tree: &FileTree,
+    extension: bool,
+) -> Result<BTreeMap<String, Place>, AllocError>
+    ensures { IfOk result (λ places. (name : Text)
+        → get_by_text places name ≡ spec.last_declared extension name (file_syntax tree.now)) }
+{
+    let mut places = BTreeMap::new(alloc);
+    for declared in declared_in_order(alloc, tree)? {
+        if is_of(declared.kind, extension) {
+            places.insert(declared.name, declared.place)?;
+        }
+    }
+    Ok(places)
 }
 
 /// Whether this has the full name, and is an extension or else a type.

@@ -15,7 +15,7 @@ mod words;
 
 pub use apart::are_apart;
 pub use customs::{Construct, CustomOptions, WithoutCustoms, path_text};
-pub use declared_at::last_declared;
+pub use declared_at::{last_declared, last_places};
 pub use declaring::declaring_files;
 pub use descriptor::{
     CType, DescriptorProto, EnumDescriptorProto, EnumOptions, EnumReservedRange,
@@ -26,7 +26,7 @@ pub use descriptor::{
 };
 pub use error::{ElabError, ElabErrorKind, ElabFailure, fault, tell};
 pub use laws::declared_names_have_places;
-pub use linking::{BEGINNING, link};
+pub use linking::{BEGINNING, is_declared_twice, is_reached, link, listed_names};
 pub use made_names::{entry_name, group_field_name};
 pub use scope::{
     Context, Declaration, DeclarationKind, Declarations, Meaning, Outward, Seen, TypeKind,

@@ -1,13 +1,13 @@
 //! Full names that files declare more than once.
 
 ghost use Rattle.std.specs.Prelude.{◌≡◌, true, ◌&&◌, List, filter, map, flat_map, length};
-ghost use Rattle.std.specs.Prelude.{◌<◌, ◌^◌, nat_eq, string_bytes};
+ghost use Rattle.std.specs.Prelude.{◌<◌, ◌^◌, nat_eq, nat_lt, string_bytes};
 ghost use Rattle.std.specs.List.{list_any};
 ghost use Rattle.protobuf_parse_syntax.specs.Trees.{FileSyntax};
 ghost use Rattle.protobuf_parse_model.specs.declared.scope.seen.Declaration as declaration;
 ghost use Rattle.protobuf_parse_model.specs.Faults.{Passes};
 ghost use Rattle.protobuf_parse_model.specs.FileOrder.{FilesAscend};
-ghost use Rattle.protobuf_parse_model.specs.Linking.{link_faults};
+ghost use Rattle.protobuf_parse_model.specs.Linking.{full_names, link_faults, occurrences};
 ghost use Rattle.protobuf_parse_model.specs.Tables.{TableTells, is_of};
 ghost use Rattle.protobuf_parse_model.specs.TableParts.{listed_faults, listed_files};
 ghost use Rattle.protobuf_parse_model.specs.Tables.{listed_names};
@@ -81,11 +81,12 @@ fn check_each_reached(alloc: Global, seen: &Seen<'_>) -> Result<(), ElabFailure>
 fn check_file(alloc: Global, seen: &Seen<'_>, file: u32) -> Result<(), ElabFailure>
     ensures { Passes result (listed_faults seen.now file) }
 {
-    check_names(alloc, seen, names_listed(seen.declarations, file))
+    check_names(alloc, seen, listed_names(seen.declarations, file))
 }
 
-/// The full names that are listed for the file with that number.
-fn names_listed(table: &Declarations, file: u32) -> &[String]
+/// The full names that are listed for the file with that number: all that it and another declare,
+/// and all that it declares twice, are among them.
+pub fn listed_names(table: &Declarations, file: u32) -> &[String]
     ensures { map string_bytes result.now ≡ listed_names table.now file }
 {
     match table.repeated.get(&file) {
@@ -124,6 +125,16 @@ fn check_name(alloc: Global, seen: &Seen<'_>, name: &str) -> Result<(), ElabFail
         ));
     }
     Ok(())
+}
+
+/// Whether the files that are reached declare the full name more than once: as an extension, or
+/// else as a message or an enum, those behind maps and groups among them.
+pub fn is_declared_twice(seen: &Seen<'_>, name: &str, extension: bool) -> bool
+    ensures { (files : List FileSyntax) → TableTells seen.now.declarations.now files
+        → result ≡ nat_lt 1 (occurrences name.now
+        (flat_map (full_names extension) (picked files seen.now.reach.now))) }
+{
+    times(seen, declarations_of(seen.declarations, name), extension) > 1
 }
 
 /// How many of the declarations, of extensions or else of types, stand in files that are reached.
@@ -189,7 +200,7 @@ pub fn is_of(kind: DeclarationKind, extension: bool) -> bool
 }
 
 /// Whether the file with that number is reached.
-fn is_reached(seen: &Seen<'_>, file: u32) -> bool
+pub fn is_reached(seen: &Seen<'_>, file: u32) -> bool
     ensures { result ≡ list_any (nat_eq file) seen.now.reach.now }
 {
     seen.reach.binary_search(&file).is_ok()

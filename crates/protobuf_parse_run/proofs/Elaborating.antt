@@ -91,7 +91,7 @@ one-tree trees None agrees = refl
 one-tree trees (Some f) agrees =
     sym (ap (λ (o : Option FileSyntax). option_to_list o ++ []) (agrees f.0 f.1 refl))
 
-trees_at-append : (trees : Trees) (ps qs : List Text)
+pub trees_at-append : (trees : Trees) (ps qs : List Text)
     → trees_at trees (ps ++ qs) ≡ trees_at trees ps ++ trees_at trees qs
 trees_at-append trees [] qs = refl
 trees_at-append trees (p ∷ ps) qs =
@@ -133,7 +133,7 @@ one-plain files (Some f) agrees =
     sym (ap (λ (o : Option FileSyntax). map (plain_of files f.0) (option_to_list o) ++ [])
     (agrees f.0 f.1 refl))
 
-plains-are : (files : Files) (named : List Named) (ns : List ℕ) → Agrees files.trees named
+pub plains-are : (files : Files) (named : List Named) (ns : List ℕ) → Agrees files.trees named
     → picked_descriptors (map (described_by files) named) ns ≡ plains_at files (paths_by named ns)
 plains-are files named [] agrees = refl
 plains-are files named (n ∷ ns) agrees =
@@ -157,7 +157,7 @@ made-alike gathers files log (e ∷ loaded) made =
     ∙ ap (λ ds. bare_file (plain_of files (string_bytes e.0) (tree_in e.1)) ∷ ds)
     (made-alike gathers files log loaded made.1)
 
-bare-one : (o : Option FileDescriptor)
+pub bare-one : (o : Option FileDescriptor)
     → option_to_list (option_map bare_file o) ≡ map bare_file (option_to_list o)
 bare-one None = refl
 bare-one (Some d) = refl
@@ -171,7 +171,7 @@ bare-picked ds (n ∷ ns) =
     (ap option_to_list (slice_get-map bare_file ds n) ∙ bare-one (slice_get ds n))
     (bare-picked ds ns)
 
-picked-alike : (ds es : List FileDescriptor) (ns : List ℕ) → DifferOnlyInOptions ds es
+pub picked-alike : (ds es : List FileDescriptor) (ns : List ℕ) → DifferOnlyInOptions ds es
     → DifferOnlyInOptions (picked_descriptors ds ns) (picked_descriptors es ns)
 picked-alike ds es ns same =
     sym (bare-picked ds ns) ∙ ap (λ bs. picked_descriptors bs ns) same ∙ bare-picked es ns
@@ -210,7 +210,7 @@ by-number files (n ∷ ns) p h =
           (r.0, Contains-append_right (n ∷ []) ns r.0 r.1, r.2)
     ]
 
-by-path : (files : List Named) (ns : List ℕ) (p : Text) (n : ℕ) → Contains ns n
+pub by-path : (files : List Named) (ns : List ℕ) (p : Text) (n : ℕ) → Contains ns n
     → IsNumbered files n p → among p (paths_by files ns) ≡ true
 by-path files [] p n c i = absurd (none-in n c)
 by-path files (m ∷ ns) p n c i =
@@ -223,7 +223,7 @@ by-path files (m ∷ ns) p n c i =
     ]
 
 -- a path has one number, where each stands once
-among-at : (files : List Named) (n : ℕ) (p : Text) → IsNumbered files n p
+pub among-at : (files : List Named) (n : ℕ) (p : Text) → IsNumbered files n p
     → among p (paths_in files) ≡ true
 among-at [] n p i = cc
 among-at (f ∷ files) zero p i =
@@ -250,7 +250,7 @@ first-apart f files m p apart i j =
     some_is : (a b : Named) → Some a ≡ Some b → a ≡ b
     some_is a b h = cc
 
-one-number : (files : List Named) (n m : ℕ) (p : Text) → AreDistinct (paths_in files)
+pub one-number : (files : List Named) (n m : ℕ) (p : Text) → AreDistinct (paths_in files)
     → IsNumbered files n p → IsNumbered files m p → n ≡ m
 one-number [] n m p d i j = cc
 one-number (f ∷ files) zero zero p d i j = refl
@@ -291,7 +291,7 @@ distinct-by files n (m ∷ ns) d h =
     with-first files m ns d h.1 (distinct-by files (suc m) ns d h.1) (slice_get files m) refl
 
 -- what stands at a number has one path
-one-path : (o : Option Named) (q p : Text) (u v : FileSyntax) → o ≡ Some (q, u)
+pub one-path : (o : Option Named) (q p : Text) (u v : FileSyntax) → o ≡ Some (q, u)
     → o ≡ Some (p, v) → q ≡ p
 one-path o q p u v h k = some_is (q, u) (p, v) (sym h ∙ k)
   where
@@ -329,6 +329,11 @@ declared-some extension name (Some u) h = (u, refl)
 
 -- ** the next file
 
+-- Of each loaded file it is noted whether something is wrong in it.
+abbrev pub AreFlagged : Files → List LoadedEntry → Type 0
+AreFlagged files loaded = (n : ℕ) (e : LoadedEntry) → slice_get loaded n ≡ Some e
+    → e.1.faulty ≡ is_faulty files (string_bytes e.0)
+
 -- What is known where a file is elaborated whose imports are loaded.
 pub record IsNext (files : Files) (loaded : List LoadedEntry) (tables : Tables)
     (log : List ReadEntry)
@@ -339,8 +344,6 @@ pub record IsNext (files : Files) (loaded : List LoadedEntry) (tables : Tables)
   pub agrees : Agrees files.trees (named_trees loaded)
   pub alike : DifferOnlyInOptions (map descriptor_in loaded)
       (map (described_by files) (named_trees loaded))
-  pub faulty : (n : ℕ) (e : LoadedEntry) → slice_get loaded n ≡ Some e
-      → e.1.faulty ≡ is_faulty files (string_bytes e.0)
   pub is : files.trees p ≡ Some t
   pub none : file_at p loaded ≡ None
   pub numbered : FilesAreNumbered (named_trees loaded) below (import_paths t)
@@ -350,29 +353,29 @@ module _ (files : Files) (loaded : List LoadedEntry) (tables : Tables) (log : Li
     (t : FileSyntax) (below : List ℕ) (n : IsNext files loaded tables log p t below)
     (reach sight : List ℕ) (reaches : AreJoined held_as.Reach loaded below reach)
     (sees : AreJoined held_as.HandedOn loaded below sight) where
-  abbrev with_p : List Named
+  abbrev pub with_p : List Named
   with_p = named_trees loaded ++ (p, t) ∷ []
 
-  abbrev rs : List Text
+  abbrev pub rs : List Text
   rs = paths_by with_p reach
 
-  abbrev ss : List Text
+  abbrev pub ss : List Text
   ss = paths_by with_p sight
 
-  agrees-p : Agrees files.trees with_p
+  pub agrees-p : Agrees files.trees with_p
   agrees-p = agrees-push files.trees (named_trees loaded) p t n.agrees n.is
 
-  once-p : AreDistinct (paths_in with_p)
+  pub once-p : AreDistinct (paths_in with_p)
   once-p = once-push loaded p t n.known.once n.none
 
-  reached-by : AreJust (Reaches files.trees p) rs
+  pub reached-by : AreJust (Reaches files.trees p) rs
   reached-by = just-by (Reaches files.trees p) with_p reach once-p reaches.ascending
       (numbers-joined held_as.Reach loaded p t (Reaches files.trees p)
       (λ r q. Reaches files.trees r q) (import_paths t) below reach
       (n.known.reach files.trees n.agrees) (stays p) (λ r q i rest. leads p r q t n.is i rest)
       (λ q h. leads-out import_paths files.trees p q t n.is h) n.numbered reaches)
 
-  seen-by : AreJust (Sees files.trees p) ss
+  pub seen-by : AreJust (Sees files.trees p) ss
   seen-by = just-by (Sees files.trees p) with_p sight once-p sees.ascending
       (numbers-joined held_as.HandedOn loaded p t (Sees files.trees p)
       (λ r q. HandsOn files.trees r q) (import_paths t) below sight
@@ -386,11 +389,11 @@ module _ (files : Files) (loaded : List LoadedEntry) (tables : Tables) (log : Li
   abbrev linked_in : List elaborating.Fault
   linked_in = link_faults (trees_at files.trees (files.reached p))
 
-  same-reach : SameMembers rs (files.reached p)
+  pub same-reach : SameMembers rs (files.reached p)
   same-reach = just-same (Reaches files.trees p) rs (files.reached p) reached-by
       (n.listed.reaches p)
 
-  same-sight : SameMembers ss (files.seen p)
+  pub same-sight : SameMembers ss (files.seen p)
   same-sight = just-same (Sees files.trees p) ss (files.seen p) seen-by (n.listed.sees p)
 
   sight-within : (q : Text) → among q ss ≡ true → among q rs ≡ true
@@ -486,14 +489,14 @@ module _ (files : Files) (loaded : List LoadedEntry) (tables : Tables) (log : Li
         );
   }
 
-  abbrev place_over : Bool → Text → Place
+  abbrev pub place_over : Bool → Text → Place
   place_over = repeat_place_over loaded (with_next loaded t) reach t
 
-  abbrev place_in : Bool → Text → Place
+  abbrev pub place_in : Bool → Text → Place
   place_in extension name = repeat_place (λ q r. among r (files.reached q))
       (declaring files.trees extension name (files.reached p)) t extension name
 
-  places-same : (extension : Bool) (name : Text) → place_over extension name
+  pub places-same : (extension : Bool) (name : Text) → place_over extension name
       ≡ place_in extension name
   places-same extension name =
       repeat_place-same (reaches_number loaded) (λ q r. among r (files.reached q)) IsOf t
@@ -522,7 +525,7 @@ module _ (files : Files) (loaded : List LoadedEntry) (tables : Tables) (log : Li
       link-told files.trees rs (files.reached p) x reached-by.once (n.listed.reaches p).once
       same-reach (subst (λ (fs : List elaborating.Fault). Among fs x) linked-is h)) m
 
-  sight-is : picked (with_next loaded t) sight ≡ trees_at files.trees ss
+  pub sight-is : picked (with_next loaded t) sight ≡ trees_at files.trees ss
   sight-is = ap (λ (ts : List FileSyntax). picked ts sight) (next-trees loaded p t)
       ∙ picked-are files.trees with_p sight agrees-p
 
@@ -639,10 +642,10 @@ module _ (files : Files) (loaded : List LoadedEntry) (tables : Tables) (log : Li
   is-faulty-here own is =
       is ∙ ap (λ (o : Option FileSyntax). not (is_nothing (own_faults files p o))) (sym n.is)
 
-  faulty-reached : (own : Bool) → own ≡ is_faulty files p
+  faulty-reached : AreFlagged files loaded → (own : Bool) → own ≡ is_faulty files p
       → any_faulty loaded reach own ≡ true
       → list_any (is_faulty files) (files.reached p) ≡ true
-  faulty-reached own is h =
+  faulty-reached flags own is h =
       elim (or_cases own (list_any (λ (m : ℕ). has_faults (slice_get loaded m)) reach) h) [
         | inl w ↦ any-text (is_faulty files) (files.reached p) p
             (sym (same-reach p) ∙ reached-by.all p (stays p)) (sym is ∙ w)
@@ -657,13 +660,13 @@ module _ (files : Files) (loaded : List LoadedEntry) (tables : Tables) (log : Li
             ) in
             any-text (is_faulty files) (files.reached p) name
             (sym (same-reach name) ∙ by-path with_p reach name r.0 r.1 at)
-            (sym (n.faulty r.0 e.0 e.1) ∙ e.2)
+            (sym (flags r.0 e.0 e.1) ∙ e.2)
       ]
 
-  reached-faulty : (own : Bool) → own ≡ is_faulty files p
+  reached-faulty : AreFlagged files loaded → (own : Bool) → own ≡ is_faulty files p
       → list_any (is_faulty files) (files.reached p) ≡ true
       → any_faulty loaded reach own ≡ true
-  reached-faulty own is h =
+  reached-faulty flags own is h =
       let q = text-any (is_faulty files) (files.reached p) h in
       let r = by-number with_p reach q.0 (same-reach q.0 ∙ q.1) in
       elim (at-end (named_trees loaded) (p, t) r.0 (q.0, r.2.0) r.2.1) [
@@ -672,21 +675,21 @@ module _ (files : Files) (loaded : List LoadedEntry) (tables : Tables) (log : Li
             let name : string_bytes e.0.0 ≡ q.0 = ap (λ (f : Named). f.0) e.2 in
             or_right own _
             (any-number (λ (m : ℕ). has_faults (slice_get loaded m)) reach r.0 r.1
-            (ap has_faults e.1 ∙ n.faulty r.0 e.0 e.1 ∙ ap (is_faulty files) name ∙ q.2))
+            (ap has_faults e.1 ∙ flags r.0 e.0 e.1 ∙ ap (is_faulty files) name ∙ q.2))
         | inr w ↦
             or_left own _ (is ∙ ap (is_faulty files) (ap (λ (f : Named). f.0) w) ∙ q.2)
       ]
 
-  pub over-report : linked ≡ [] → (own : Bool)
+  pub over-report : AreFlagged files loaded → linked ≡ [] → (own : Bool)
       → own ≡ not (is_nothing (own_over (with_next loaded t) sight t))
       → report_over (with_next loaded t) descriptors reach sight (any_faulty loaded reach own) t
       ≡ report_at files p t
-  over-report h own is =
+  over-report flags h own is =
       let here = is-faulty-here own
       (is ∙ ap (λ (fs : List elaborating.Fault). not (is_nothing fs)) (own-same h)) in
       let any = same-bool (any_faulty loaded reach own)
-      (list_any (is_faulty files) (files.reached p)) (faulty-reached own here)
-      (reached-faulty own here) in
+      (list_any (is_faulty files) (files.reached p)) (faulty-reached flags own here)
+      (reached-faulty flags own here) in
       ap (λ (fs : List elaborating.Fault). before_others fs
       (if any_faulty loaded reach own then [] else
       file_faults (environment (picked (with_next loaded t) sight)
@@ -731,11 +734,11 @@ pub settled-in : (gathers : Bool) (files : Files) (loaded new : List LoadedEntry
     (tables after : Tables) (p : Text)
     (t : FileSyntax) (height read : ℕ) (below public : List ℕ) (log : List ReadEntry)
     (r : Result LoadedAs RunFault)
-    → IsNext files loaded tables log p t below
+    → IsNext files loaded tables log p t below → AreFlagged files loaded
     → ElaboratesOver gathers p t height read below public log loaded new after r
     → ElaboratesFile gathers files p t height read log loaded new r
 settled-in gathers files loaded new tables after p t height read below public log
-    (Ok placed) n over =
+    (Ok placed) n flags over =
     λ missing.
     let a = over missing in
     let reach = a.file.reach.items in
@@ -762,11 +765,11 @@ settled-in gathers files loaded new tables after p t height read below public lo
           ∙ ap (λ (fs : List elaborating.Fault). not (is_nothing fs))
           (own-same files loaded tables log p t below n reach a.sight a.reaches a.sees linked);
       told = a.told
-          ∙ over-report files loaded tables log p t below n reach a.sight a.reaches a.sees linked
-          a.file.faulty a.faulty;
+          ∙ over-report files loaded tables log p t below n reach a.sight a.reaches a.sees flags
+          linked a.file.faulty a.faulty;
       placed_is = a.height_placed;
     }
-settled-in gathers files loaded new tables after p t height read below public log (Err f) n over =
+settled-in gathers files loaded new tables after p t height read below public log (Err f) n flags over =
     λ e found named.
     elim (over e found named) [
       | inl w ↦

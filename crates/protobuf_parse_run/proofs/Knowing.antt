@@ -2,7 +2,8 @@
 use Rattle.std.proofs.Common.{◌≡◌, ◌⊎◌, ℕ, zero, suc, Bool, true, false, ◌||◌, inl, inr, List, []}
 use Rattle.std.proofs.Common.{◌∷◌, ◌++◌, flat_map, map, length, Some, None, refl, sym, ◌∙◌, ap}
 use Rattle.std.proofs.Common.{subst, if◌then◌else◌}
-use Rattle.std.specs.Prelude.{bytes_eq, slice_get, string_bytes}
+use Rattle.std.specs.Global.{Global}
+use Rattle.std.specs.Prelude.{String, bytes_eq, slice_get, string_bytes}
 use Rattle.std.proofs.lemmas.List.{map-append}
 use Rattle.protobuf_parse_base.specs.PathViews.{path_buf_text}
 use Rattle.protobuf_parse_syntax.specs.Dependencies.{imported, imports}
@@ -15,7 +16,7 @@ use Rattle.protobuf_parse_run.specs.Walks.{Trees, Reaches, HandsOn, Sees, sees_i
 use Rattle.protobuf_parse_run.specs.Walks.{among}
 use Rattle.protobuf_parse_run.specs.Walks.{import_paths, public_path, public_paths, public_paths_of}
 use Rattle.protobuf_parse_run.specs.Loading.{Agrees, AllHold, AreKnown, FilesAreNumbered}
-use Rattle.protobuf_parse_run.specs.Loading.{AreNumbersOf}
+use Rattle.protobuf_parse_run.specs.Loading.{AreJoined, AreNumbersOf}
 use Rattle.protobuf_parse_run.specs.Loading.{AreUnloaded, IndexBegins, LoadedEntry, Grows}
 use Rattle.protobuf_parse_run.specs.Loading.{IsAddedOver}
 use Rattle.protobuf_parse_run.specs.Loading.{IsMetAt}
@@ -23,6 +24,7 @@ use Rattle.protobuf_parse_run.specs.Loading.{Named, file_at, held, named_trees, 
 use Rattle.protobuf_parse_run.specs.Loading.{descriptor_in}
 use Rattle.protobuf_parse_run.specs.Loading.{read_paths, tree_in, trees_of, with_next}
 use Rattle.protobuf_parse_run.specs.declared.loader.LoadedAs.{LoadedAs}
+use Rattle.protobuf_parse_run.specs.declared.loader.LoadedFile.{LoadedFile}
 use Rattle.protobuf_parse_run.specs.declared.log.ReadEntry.{ReadEntry}
 use Rattle.protobuf_parse_run.specs.declared.reach.Held.{Held}
 use Rattle.protobuf_parse_run.specs.declared.reach.Held.TheVariants as held_as
@@ -205,20 +207,25 @@ pub next-trees : (loaded : List LoadedEntry) (p : Text) (t : FileSyntax)
     → with_next loaded t ≡ trees_of (named_trees loaded ++ (p, t) ∷ [])
 next-trees loaded p t = sym (map-append (λ (f : Named). f.1) (named_trees loaded) ((p, t) ∷ []))
 
-module _ (gathers : Bool) (path : Text) (tree : FileSyntax) (height read : ℕ)
-    (imports public : List ℕ)
-    (old new : List LoadedEntry) (before after : Tables) (log : List ReadEntry) (placed : LoadedAs)
+-- What is known where a file comes behind those that are loaded.
+module _ (path : Text) (tree : FileSyntax) (imports public : List ℕ)
+    (old : List LoadedEntry) (before after : Tables) (log : List ReadEntry)
+    (key : String Global) (file : LoadedFile)
     (known : AreKnown old before log) (was_read : among path (read_paths log) ≡ true)
     (numbered : FilesAreNumbered (named_trees old) imports (import_paths tree))
     (publicly : FilesAreNumbered (named_trees old) public (public_paths tree))
     (none : file_at path old ≡ None)
-    (a : IsAddedOver gathers path tree height read imports public old new after placed) where
+    (named : string_bytes key ≡ path) (tree_is : tree_in file ≡ tree)
+    (reaches : AreJoined held_as.Reach old imports file.reach.items)
+    (hands_on : AreJoined held_as.HandedOn old public file.handed_on.items)
+    (tells : TableTells after.names (with_next old tree))
+    (begins : IndexBegins after.spots (map descriptor_in (old ++ (key, file) ∷ []))) where
   abbrev x : LoadedEntry
-  x = (a.key, a.file)
+  x = (key, file)
 
-  name-is : name_of x ≡ (path, tree)
-  name-is = ap (λ (z : Text). (z, tree_in a.file)) a.named
-      ∙ ap (λ (z : FileSyntax). (path, z)) a.tree_is
+  pub name-is : name_of x ≡ (path, tree)
+  name-is = ap (λ (z : Text). (z, tree_in file)) named
+      ∙ ap (λ (z : FileSyntax). (path, z)) tree_is
 
   module _ (trees : Trees) (agrees : Agrees trees (named_trees old ++ (path, tree) ∷ [])) where
     is : trees path ≡ Some tree
@@ -228,33 +235,33 @@ module _ (gathers : Bool) (path : Text) (tree : FileSyntax) (height read : ℕ)
     before_it = agrees-less trees (named_trees old) ((path, tree) ∷ []) agrees
 
     reach-is : AreNumbersOf (Reaches trees path)
-        (named_trees old ++ (path, tree) ∷ []) a.file.reach.items
+        (named_trees old ++ (path, tree) ∷ []) file.reach.items
     reach-is = numbers-joined held_as.Reach old path tree (Reaches trees path)
-        (λ r q. Reaches trees r q) (import_paths tree) imports a.file.reach.items
+        (λ r q. Reaches trees r q) (import_paths tree) imports file.reach.items
         (known.reach trees before_it) (stays path) (λ r q i rest. leads path r q tree is i rest)
-        (λ q h. leads-out import_paths trees path q tree is h) numbered a.reaches
+        (λ q h. leads-out import_paths trees path q tree is h) numbered reaches
 
     handed-is : AreNumbersOf (HandsOn trees path)
-        (named_trees old ++ (path, tree) ∷ []) a.file.handed_on.items
+        (named_trees old ++ (path, tree) ∷ []) file.handed_on.items
     handed-is = numbers-joined held_as.HandedOn old path tree (HandsOn trees path)
-        (λ r q. HandsOn trees r q) (public_paths tree) public a.file.handed_on.items
+        (λ r q. HandsOn trees r q) (public_paths tree) public file.handed_on.items
         (known.handed_on trees before_it) (stays path) (λ r q i rest. leads path r q tree is i rest)
-        (λ q h. leads-out public_paths trees path q tree is h) publicly a.hands_on
+        (λ q h. leads-out public_paths trees path q tree is h) publicly hands_on
 
   -- the same of the entry
   of-entry : (R : Trees → Text → Text → Type 0) (which : Held)
       → ((trees : Trees) → Agrees trees (named_trees old ++ (path, tree) ∷ [])
-      → AreNumbersOf (R trees path) (named_trees old ++ (path, tree) ∷ []) (held which a.file))
+      → AreNumbersOf (R trees path) (named_trees old ++ (path, tree) ∷ []) (held which file))
       → (trees : Trees) → Agrees trees (named_trees old ++ name_of x ∷ [])
-      → AreNumbersOf (R trees (string_bytes a.key)) (named_trees old ++ name_of x ∷ [])
-      (held which a.file)
+      → AreNumbersOf (R trees (string_bytes key)) (named_trees old ++ name_of x ∷ [])
+      (held which file)
   of-entry R which new trees agrees =
       let there = new trees
       (subst (λ (f : Named). Agrees trees (named_trees old ++ f ∷ [])) name-is agrees) in
       subst (λ (z : Text). AreNumbersOf (R trees z) (named_trees old ++ name_of x ∷ [])
-      (held which a.file)) (sym a.named)
+      (held which file)) (sym named)
       (subst (λ (f : Named). AreNumbersOf (R trees path) (named_trees old ++ f ∷ [])
-      (held which a.file)) (sym name-is) there)
+      (held which file)) (sym name-is) there)
 
   trees-are : trees_of (named_trees (old ++ x ∷ [])) ≡ with_next old tree
   trees-are = ap trees_of (named-push old x)
@@ -265,12 +272,10 @@ module _ (gathers : Bool) (path : Text) (tree : FileSyntax) (height read : ℕ)
       ≡ paths_in (named_trees old ++ (path, tree) ∷ [])
   paths-are = ap paths_in (named-push old x ∙ ap (λ (f : Named). named_trees old ++ f ∷ []) name-is)
 
-  pub known-push : AreKnown new after log
-  known-push = rw a.entries (record {
-    tells = subst (TableTells after.names) (sym trees-are) a.tells;
-    begins = subst (λ (es : List LoadedEntry). IndexBegins after.spots (map descriptor_in es))
-        a.entries
-        a.begins;
+  pub known-add : AreKnown (old ++ x ∷ []) after log
+  known-add = record {
+    tells = subst (TableTells after.names) (sym trees-are) tells;
+    begins = begins;
     once = subst AreDistinct (sym paths-are) (once-push old path tree known.once none);
     reach = all-hold-push Reaches held_as.Reach old x known.reach
         (of-entry Reaches held_as.Reach reach-is);
@@ -279,21 +284,40 @@ module _ (gathers : Bool) (path : Text) (tree : FileSyntax) (height read : ℕ)
     read = λ p e h. elim (entry-in p x e old h) [
       | inl w ↦ known.read p e w
       | inr w ↦ subst (λ (z : Text). among z (read_paths log) ≡ true)
-          (sym (w.0 ∙ a.named)) was_read
+          (sym (w.0 ∙ named)) was_read
     ];
-  })
+  }
+
+module _ (gathers : Bool) (path : Text) (tree : FileSyntax) (height read : ℕ)
+    (imports public : List ℕ)
+    (old new : List LoadedEntry) (before after : Tables) (log : List ReadEntry) (placed : LoadedAs)
+    (known : AreKnown old before log) (was_read : among path (read_paths log) ≡ true)
+    (numbered : FilesAreNumbered (named_trees old) imports (import_paths tree))
+    (publicly : FilesAreNumbered (named_trees old) public (public_paths tree))
+    (none : file_at path old ≡ None)
+    (a : IsAddedOver gathers path tree height read imports public old new after placed) where
+  pub known-push : AreKnown new after log
+  known-push = subst (λ (es : List LoadedEntry). AreKnown es after log) (sym a.entries)
+      (known-add path tree imports public old before after log a.key a.file known was_read numbered
+      publicly none a.named a.tree_is a.reaches a.hands_on a.tells
+      (subst (λ (es : List LoadedEntry). IndexBegins after.spots (map descriptor_in es)) a.entries
+      a.begins))
 
   pub met-push : IsMetAt path old new placed
   met-push = rw a.entries (record {
     number =
         rw a.number_placed
-        (rw (named-push old x, name-is) (
+        (rw (named-push old (a.key, a.file), is_named) (
           tree,
           subst (λ (k : ℕ). slice_get (named_trees old ++ (path, tree) ∷ []) k
               ≡ Some (path, tree)) (named-length old) (get-seam (named_trees old) [] (path, tree)),
         ));
-    more = (x ∷ [], refl);
+    more = ((a.key, a.file) ∷ [], refl);
   })
+    where
+      is_named : name_of (a.key, a.file) ≡ (path, tree)
+      is_named = ap (λ (z : Text). (z, tree_in a.file)) a.named
+          ∙ ap (λ (z : FileSyntax). (path, z)) a.tree_is
 
 -- a log that grew has all that was read
 pub known-grows : (loaded : List LoadedEntry) (tables : Tables) (old new : List ReadEntry)

@@ -39,4 +39,4 @@ pub mod AskedOnce
 pub mod StandingBytes
 mod HeldBytes
 pub mod ReadingBack
-mod Catching
+pub mod Catching

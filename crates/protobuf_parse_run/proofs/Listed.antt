@@ -11,7 +11,7 @@ use Rattle.protobuf_parse_elaboration.proofs.Closing.{closed}
 use Rattle.protobuf_parse_run.specs.Walks.{Trees, Reaches, HandsOn, Sees, sees_itself, by_import}
 use Rattle.protobuf_parse_run.specs.Walks.{among}
 use Rattle.protobuf_parse_run.specs.Walks.{import_paths, public_paths}
-use Rattle.protobuf_parse_run.specs.Run.{HasTrees, HaveLists, IsTree, text_read}
+use Rattle.protobuf_parse_run.specs.Run.{FilesAreListed, HasTrees, HaveLists, IsTree, text_read}
 use Rattle.protobuf_parse_run.specs.Loading.{read_paths}
 use Rattle.protobuf_parse_run.specs.declared.log.ReadEntry.{ReadEntry}
 use Rattle.protobuf_parse_run.proofs.Keeping.{bool_cases, or_cases, or_left, or_right, text-same}
@@ -32,19 +32,22 @@ abbrev paths_at : Option FileSyntax → List Text
 paths_at None = []
 paths_at (Some t) = import_paths t
 
-module _ (table : List (Text × Text)) (log : List ReadEntry) (trees : Trees)
-    (has : HasTrees table log trees) where
-  read-of : (p : Text) (t : FileSyntax) → trees p ≡ Some t → among p (read_paths log) ≡ true
-  read-of p t is =
-      was-read table log p t
-      (subst (λ (o : Option FileSyntax). IsTree (text_read table log p) o) is (has p))
+pub read-of : (table : List (Text × Text)) (log : List ReadEntry) (trees : Trees)
+    → HasTrees table log trees → (p : Text) (t : FileSyntax) → trees p ≡ Some t
+    → among p (read_paths log) ≡ true
+read-of table log trees has p t is =
+    was-read table log p t
+    (subst (λ (o : Option FileSyntax). IsTree (text_read table log p) o) is (has p))
 
+-- where only some paths have trees
+module _ (some : List Text) (trees : Trees)
+    (among_some : (p : Text) (t : FileSyntax) → trees p ≡ Some t → among p some ≡ true) where
   only-one : (r p : Text) → among r (p ∷ []) ≡ true → r ≡ p
   only-one r p h = elim (or_cases (bytes_eq r p) false h) [ inl w ↦ text-true r p w | inr w ↦ cc ]
 
   reached-of : (p : Text) → (ps : List Text) × AreJust (Reaches trees p) ps
   reached-of p =
-      let c = closed trees (read_paths log) import_paths (p ∷ []) read-of in (
+      let c = closed trees some import_paths (p ∷ []) among_some in (
         c.0,
         record {
           once = c.1.once;
@@ -79,7 +82,7 @@ module _ (table : List (Text × Text)) (log : List ReadEntry) (trees : Trees)
 
   seen-of : (p : Text) → (ps : List Text) × AreJust (Sees trees p) ps
   seen-of p =
-      let c = closed trees (read_paths log) public_paths (p ∷ paths_at (trees p)) read-of in (
+      let c = closed trees some public_paths (p ∷ paths_at (trees p)) among_some in (
         c.0,
         record {
           once = c.1.once;
@@ -88,13 +91,14 @@ module _ (table : List (Text × Text)) (log : List ReadEntry) (trees : Trees)
         },
       )
 
+  pub lists-of : (reached : Text → List Text) × (seen : Text → List Text)
+      × FilesAreListed trees reached seen
+  lists-of = (
+    (λ p. (reached-of p).0),
+    (λ p. (seen-of p).0),
+    record { reaches = λ p. (reached-of p).1; sees = λ p. (seen-of p).1 },
+  )
+
 pub have-lists : (table : List (Text × Text)) (log : List ReadEntry) → HaveLists table log
-have-lists table log trees has = (
-  (λ p. (reached-of table log trees has p).0),
-  (λ p. (seen-of table log trees has p).0),
-  record {
-    reaches = λ p. (reached-of table log trees has p).1;
-    sees =
-        λ p. (seen-of table log trees has p).1;
-  },
-)
+have-lists table log trees has =
+    lists-of (read_paths log) trees (read-of table log trees has)

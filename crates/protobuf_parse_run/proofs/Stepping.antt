@@ -393,14 +393,14 @@ module _ (gathers : Bool) (legal : Legal) (files : Files) (kept events : List Ev
         known = known;
         agrees = agrees;
         alike = made-alike gathers files log loaded r.good.made;
-        faulty = flags-made gathers files log loaded r.good.made;
         is = r.held.is;
         none = none;
         numbered = numbered;
       } in
       let elaborates = settled-in gathers files loaded later tables after (frame_path top)
       (file_syntax top.tree)
-      (top.height + 1) top.read top.below.items top.public.items log res next over in
+      (top.height + 1) top.read top.below.items top.public.items log res next
+      (flags-made gathers files log loaded r.good.made) over in
       ends res elaborates
     where
       p : Text

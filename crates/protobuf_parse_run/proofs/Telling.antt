@@ -14,7 +14,7 @@ use Rattle.protobuf_parse_run.specs.Walks.{the_resolver, Event, Input, named, ev
 use Rattle.protobuf_parse_run.specs.Run.{Files, AreDescriptors, HasTrees, IsAccepted, IsCaused}
 use Rattle.protobuf_parse_run.specs.Run.{RunIsRefused, IsBroken, MayRead, MayResolve, fails, Legal}
 use Rattle.protobuf_parse_run.specs.Run.{shipped, HaveTrees, RunsAsTold, MayAnswer}
-use Rattle.protobuf_parse_run.specs.Shipped.{IsNeverAsked, RunsByResolver, RunsWithShipped}
+use Rattle.protobuf_parse_run.specs.Shipped.{IsNeverAsked, RunsByResolver, RunsWithTable}
 use Rattle.protobuf_parse_run.specs.Loading.{LoadedEntry, Good, Stops, IsLoaded, paths_of, tree_in}
 use Rattle.protobuf_parse_base.specs.PathViews.{path_buf_text}
 use Rattle.protobuf_parse_base.specs.declared.proto_path.path.ProtoPathBuf.{ProtoPathBuf}
@@ -93,28 +93,28 @@ module _ (legal : Legal) (files : Files) (told : List Event) where
     reads = h.answers;
   })
 
--- ** runs with the files that this library brings
+-- ** runs with a table of bundled files
 
 -- all of it, from what the run was told
-pub with-shipped : (resolve : MayResolve) (read : MayRead) (inputs : List Input)
-    (log : List ReadEntry) (r : Result (Vec FileDescriptorProto) RunFault)
-    → HaveTrees shipped log → RunsAsTold (MayAnswer resolve read) inputs shipped log r
-    → RunsWithShipped resolve read inputs r
-with-shipped resolve read inputs log r trees told = record {
+pub with-table : (resolve : MayResolve) (read : MayRead) (table : List (Text × Text))
+    (inputs : List Input) (log : List ReadEntry) (r : Result (Vec FileDescriptorProto) RunFault)
+    → HaveTrees table log → RunsAsTold (MayAnswer resolve read) inputs table log r
+    → RunsWithTable resolve read table inputs r
+with-table resolve read table inputs log r trees told = record {
   log = log;
   trees = trees;
-  lists = have-lists shipped log;
+  lists = have-lists table log;
   told = told;
-  once = all-asked-once (MayAnswer resolve read) inputs shipped log r told;
-  options = all-held (MayAnswer resolve read) inputs shipped log r told;
-  readable = all-readable (MayAnswer resolve read) inputs shipped log r told;
+  once = all-asked-once (MayAnswer resolve read) inputs table log r told;
+  options = all-held (MayAnswer resolve read) inputs table log r told;
+  readable = all-readable (MayAnswer resolve read) inputs table log r told;
 }
 
 -- memory runs out before the first input
 pub unstarted : (resolve : MayResolve) (inputs : List Input)
     (r : Result (Vec FileDescriptorProto) RunFault) (f : RunFault) → r ≡ Err f
     → f ≡ fault.Memory → RunsByResolver resolve inputs r
-unstarted resolve inputs r f is m = with-shipped resolve IsNeverAsked inputs [] r
+unstarted resolve inputs r f is m = with-table resolve IsNeverAsked shipped inputs [] r
     (λ p. None, λ p. untold)
     (λ trees reached seen has listed. rw is (inr (record {
       memory = m;
@@ -132,7 +132,7 @@ pub by-resolver : (resolve : MayResolve) (read : MayRead) (log : List ReadEntry)
     → HaveTrees table log → RunsAsTold (MayAnswer resolve read) given table log r
     → RunsByResolver resolve (map (λ (b : ProtoPathBuf). named (path_buf_text b)) paths) r
 by-resolver resolve read log given paths table r is same trees told =
-    with-shipped resolve IsNeverAsked inputs log r (rw same at trees)
+    with-table resolve IsNeverAsked shipped inputs log r (rw same at trees)
     (told-of (MayAnswer resolve read) (MayAnswer resolve IsNeverAsked) legal inputs shipped log r
     (paths-named paths)
     (subst (λ (z : List Input). RunsAsTold (MayAnswer resolve read) z shipped log r) is

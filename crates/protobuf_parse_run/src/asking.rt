@@ -35,7 +35,7 @@ pub fn answer<R: ProtoPathResolver, I: InputReader>(
 {
     match fs_path {
         None => resolved(alloc, sources.resolver, path),
-        Some(fs_path) => read(alloc, sources.reader, fs_path),
+        Some(fs_path) => read_own(alloc, sources.reader, fs_path),
     }
 }
 
@@ -57,7 +57,13 @@ fn resolved<R: ProtoPathResolver>(
     }
 }
 
-fn read<I: InputReader>(alloc: Global, reader: &I, fs_path: &str) -> Result<ReadOutcome, AllocError>
+/// The reader's answer at an input's own path: a content, whose origin is that path, or a fault of
+/// the reader's. The one error is that memory is short.
+pub fn read_own<I: InputReader>(
+    alloc: Global,
+    reader: &I,
+    fs_path: &str,
+) -> Result<ReadOutcome, AllocError>
     ensures { IfOk result (WasRead (I.may_read reader.now) fs_path.now) }
 {
     match reader.read(alloc, fs_path) {

@@ -283,7 +283,7 @@ fn spelled(
 }
 
 /// The descriptors of the files with these numbers. The next file's is `own`.
-fn descriptors<'a>(
+pub fn descriptors<'a>(
     alloc: Global,
     loaded: &'a LoadedFiles,
     own: &'a FileDescriptorProto,

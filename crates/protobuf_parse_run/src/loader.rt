@@ -249,7 +249,7 @@ fn check_loaded<R: ProtoPathResolver, I: InputReader>(
 }
 
 /// The content that the read with this number gave.
-fn content_of<'a>(
+pub fn content_of<'a>(
     reads: &'a [ReadEntry],
     read: usize,
     bundled: &[(&'a str, &'a str)],
@@ -265,7 +265,7 @@ fn content_of<'a>(
 }
 
 /// L4 where the reader gave a fault, and L6 where it gave other bytes than were loaded.
-fn compared(
+pub fn compared(
     alloc: Global,
     name: &ProtoPathBuf,
     fs_path: &str,

@@ -97,7 +97,7 @@ fn repeat_place(
 }
 
 /// The place of the first import with which each of the files with these numbers is reached.
-fn completing_import(
+pub fn completing_import(
     alloc: Global,
     loaded: &LoadedFiles,
     tree: &FileTree,

@@ -60,8 +60,7 @@ fn writes_sets(rt: HostRuntime) -> Result<(), Fail> {
         "",
     );
     assert_eq!(rt; fs::read(&rt, set.as_str())?.as_slice(), all.as_slice());
-    let beside = format!(in rt.alloc(); "{set}.0.part")?;
-    assert!(rt; !fs::exists(&rt, beside.as_str())?);
+    assert!(rt; !fs::exists(&rt, ".protobuf_parse.0.part")?);
 
     // Where a fault is told, it stays as it was.
     fs::write(&rt, apple.as_str(), b"message Apple {")?;

@@ -1,8 +1,10 @@
-//! The resolver and the reader of real files, called by hand, and options with nothing set.
+//! The resolver and the reader of real files, called by hand, options with nothing set, and parsers
+//! with and without Google's files.
 
+use crate::outcome::own_path;
 use protobuf_parse::pure::parse_and_typecheck_custom;
 use protobuf_parse::{
-    FsReader, InputReader, ProtoPath, ProtoPathBuf, ProtoPathResolver, fs_resolver,
+    FsReader, InputReader, Parser, ProtoPath, ProtoPathBuf, ProtoPathResolver, fs_resolver,
 };
 use std::test::Fail;
 use std::{fs, process};
@@ -48,5 +50,38 @@ fn real_files_are_found_and_read(rt: HostRuntime) -> Result<(), Fail> {
     assert!(rt; field.options.is_some());
     fs::remove_file(&rt, name.as_str())?;
     assert!(rt; resolver.resolve(alloc, path)?.is_none());
+    Ok(())
+}
+
+#[test]
+fn google_files_are_there_where_asked_for(rt: HostRuntime) -> Result<(), Fail> {
+    let alloc = rt.alloc();
+    let path = own_path(&rt, "google.proto")?;
+    let unfound = "protobuf path `google/protobuf/api.proto` is not found in import path [\".\"]";
+    let unknown = format!(in alloc;
+        "error in `{path}`: E3 NotFoundByRelPath: google.protobuf.FileDescriptorSet"
+    )?;
+    for (import, name, fault) in [
+        ("api", "Api", unfound),
+        ("descriptor", "FileDescriptorSet", unknown.as_str()),
+    ] {
+        let text = format!(in alloc;
+            "import 'google/protobuf/{import}.proto';\n\
+             message M {{ optional google.protobuf.{name} a = 1; }}"
+        )?;
+        fs::write(&rt, path.as_str(), text.as_bytes())?;
+        let mut parser = Parser::new(alloc);
+        parser.include(".")?.input(&path)?;
+        let Err(told) = parser.parse_and_typecheck(&rt) else {
+            return Err(Fail::new("accepted"));
+        };
+        assert_eq!(rt; format!(in alloc; "{told}")?.as_str(), fault);
+        parser.google_files();
+        assert_eq!(rt; parser.file_descriptor_set(&rt)?.file.len(), 1);
+        for report in &parser.check(&rt)? {
+            assert!(rt; report.faults.is_empty());
+        }
+    }
+    fs::remove_file(&rt, path.as_str())?;
     Ok(())
 }

@@ -1,7 +1,7 @@
 //! A linter that tells its own rule beside faults and violations.
 
 use protobuf_parse::{
-    FileDescriptorProto, FsReader, ProtoPathBuf, RunInput, RunLog, bundled_files, fs_resolver,
+    FileDescriptorProto, FsReader, ProtoPathBuf, RunInput, RunLog, fs_resolver, google_files,
     run_inputs,
 };
 use protobuf_parse_diagnostics::{
@@ -45,7 +45,7 @@ fn lint(
 
 /// What is told of a run: its fault, or violations of rules and of the linter's own.
 fn told(alloc: Global, log: &RunLog) -> Result<Vec<Diagnostic>, AllocError> {
-    let sources = Sources::of_reads(alloc, &log.reads, bundled_files())?;
+    let sources = Sources::of_reads(alloc, &log.reads, google_files())?;
     let mut told = Vec::new(alloc);
     match &log.result {
         Ok(files) => {
@@ -76,7 +76,7 @@ fn linters_tell_their_own_rules(rt: HostRuntime) -> Result<(), Fail> {
         &inputs,
         &resolver,
         &FsReader::new(&rt),
-        bundled_files(),
+        google_files(),
     );
     fs::remove_file(&rt, path.as_str())?;
     let mut lines = String::new(alloc);

@@ -3,7 +3,8 @@
 ghost use Rattle.std.specs.Prelude.{◌≡◌, IfOk, IfErr, OnOk, OnErr, List, [], ◌∷◌, ◌++◌, length};
 ghost use Rattle.std.specs.Prelude.{filter, map, option_map, string_bytes};
 ghost use Rattle.protobuf_parse_base.specs.PathViews.{path_buf_text};
-ghost use Rattle.protobuf_parse_run.specs.Run.{IsCaused, input_view};
+ghost use Rattle.protobuf_parse_google.specs.Google.{google};
+ghost use Rattle.protobuf_parse_run.specs.Run.{IsCaused, input_view, rows, shipped};
 ghost use Rattle.protobuf_parse.specs.Includes.{part_views};
 ghost use Rattle.protobuf_parse.specs.Folders.{MayFind};
 ghost use Rattle.protobuf_parse.specs.NameSets.{HasNames};
@@ -13,12 +14,13 @@ ghost use Rattle.protobuf_parse_model.specs.Descriptors.{Text};
 ghost use Rattle.protobuf_parse.specs.Parsers.{IsParsed, IsSameParser, IsSetOfInputs};
 ghost use Rattle.protobuf_parse.specs.Parsers.{MayReadAnything, TellsFault};
 ghost use Rattle.protobuf_parse.specs.Outcomes.{RanOverFolders};
-ghost use Rattle.protobuf_parse.specs.Parsers.{includes_of, inputs_at, inputs_of, is_name_among};
-ghost use Rattle.protobuf_parse.specs.Parsers.{is_of_input};
+ghost use Rattle.protobuf_parse.specs.Parsers.{bundled_of, includes_of, inputs_at, inputs_of};
+ghost use Rattle.protobuf_parse.specs.Parsers.{is_name_among, is_of_input};
 
 use crate::parser::files::{FsReader, copy_texts, fs_resolver};
 use crate::parser::includes::proto_paths_of;
 use protobuf_parse_base::proto_path::ProtoPathBuf;
+use protobuf_parse_google::google_files;
 use protobuf_parse_model::{FileDescriptorProto, FileDescriptorSet};
 use protobuf_parse_run::{FileReport, RunFault, RunInput, bundled_files, check_inputs, run_inputs};
 use std::alloc::{AllocError, Global};
@@ -30,6 +32,7 @@ use std::rt::Files;
 ///
 /// ```
 /// let mut parser = Parser::new(rt.alloc());
+/// parser.google_files();
 /// parser.push_includes(&["schemas", "vendor"])?;
 /// parser.push_input("schemas/shop/order.proto")?;
 /// let parsed = parser.parse_and_typecheck(&rt)?;
@@ -41,6 +44,7 @@ use std::rt::Files;
 pub struct Parser {
     includes: Vec<String>,
     inputs: Vec<String>,
+    google_files: bool,
 }
 
 /// What a run of a [`Parser`] gave.
@@ -55,14 +59,17 @@ pub struct ParsedAndTypechecked {
 }
 
 impl Parser {
-    /// A parser without includes and inputs.
+    /// A parser without includes and inputs, whose bundled files are
+    /// [`bundled_files`](crate::bundled_files).
     pub fn new(alloc: Global) -> Self
         ensures includes { includes_of result ≡ [] }
         ensures inputs { inputs_of result ≡ [] }
+        ensures bundled { bundled_of result ≡ shipped }
     {
         Parser {
             includes: Vec::new(alloc),
             inputs: Vec::new(alloc),
+            google_files: false,
         }
     }
 
@@ -71,6 +78,22 @@ impl Parser {
         ensures same { result.now ≡ self.old }
         ensures same_reference { result.ghost_name ≡ self.entry.ghost_name }
     {
+        self
+    }
+
+    /// Takes Google's files with all that they declare, [`google_files`](crate::google_files), as
+    /// the bundled files, and answers the parser. A file that an include has counts before them.
+    ///
+    /// ```
+    /// parser.google_files(); // `api.proto` and `FileDescriptorSet` are there, say
+    /// ```
+    pub fn google_files(&mut self) -> &mut Self
+        ensures bundled { bundled_of result.now ≡ google }
+        ensures includes { includes_of result.now ≡ includes_of self.old }
+        ensures inputs { inputs_of result.now ≡ inputs_of self.old }
+        ensures same_reference { result.ghost_name ≡ self.entry.ghost_name }
+    {
+        self.google_files = true;
         self
     }
 
@@ -83,6 +106,7 @@ impl Parser {
         ensures includes { OnOk result
             (includes_of self.new ≡ includes_of self.old ++ include.now ∷ []) }
         ensures inputs { inputs_of self.new ≡ inputs_of self.old }
+        ensures bundled { bundled_of self.new ≡ bundled_of self.old }
         ensures kept { OnErr result (IsSameParser self.old self.new) }
     {
         push_text(&mut self.includes, include)
@@ -93,6 +117,7 @@ impl Parser {
         ensures includes { IfOk result (λ p.
             includes_of p.now ≡ includes_of self.old ++ include.now ∷ []) }
         ensures inputs { IfOk result (λ p. inputs_of p.now ≡ inputs_of self.old) }
+        ensures bundled { IfOk result (λ p. bundled_of p.now ≡ bundled_of self.old) }
         ensures same_reference { IfOk result (λ p. p.ghost_name ≡ self.entry.ghost_name) }
     {
         self.push_include(include)?;
@@ -105,6 +130,7 @@ impl Parser {
         ensures includes { OnOk result
             (includes_of self.new ≡ includes_of self.old ++ part_views includes.now) }
         ensures inputs { inputs_of self.new ≡ inputs_of self.old }
+        ensures bundled { bundled_of self.new ≡ bundled_of self.old }
         ensures kept { OnErr result (IsSameParser self.old self.new) }
     {
         push_texts(&mut self.includes, includes)
@@ -115,6 +141,7 @@ impl Parser {
         ensures includes { IfOk result (λ p.
             includes_of p.now ≡ includes_of self.old ++ part_views includes.now) }
         ensures inputs { IfOk result (λ p. inputs_of p.now ≡ inputs_of self.old) }
+        ensures bundled { IfOk result (λ p. bundled_of p.now ≡ bundled_of self.old) }
         ensures same_reference { IfOk result (λ p. p.ghost_name ≡ self.entry.ghost_name) }
     {
         self.push_includes(includes)?;
@@ -130,6 +157,7 @@ impl Parser {
         ensures inputs { OnOk result
             (inputs_of self.new ≡ inputs_of self.old ++ input.now ∷ []) }
         ensures includes { includes_of self.new ≡ includes_of self.old }
+        ensures bundled { bundled_of self.new ≡ bundled_of self.old }
         ensures kept { OnErr result (IsSameParser self.old self.new) }
     {
         push_text(&mut self.inputs, input)
@@ -140,6 +168,7 @@ impl Parser {
         ensures inputs { IfOk result (λ p.
             inputs_of p.now ≡ inputs_of self.old ++ input.now ∷ []) }
         ensures includes { IfOk result (λ p. includes_of p.now ≡ includes_of self.old) }
+        ensures bundled { IfOk result (λ p. bundled_of p.now ≡ bundled_of self.old) }
         ensures same_reference { IfOk result (λ p. p.ghost_name ≡ self.entry.ghost_name) }
     {
         self.push_input(input)?;
@@ -152,6 +181,7 @@ impl Parser {
         ensures inputs { OnOk result
             (inputs_of self.new ≡ inputs_of self.old ++ part_views inputs.now) }
         ensures includes { includes_of self.new ≡ includes_of self.old }
+        ensures bundled { bundled_of self.new ≡ bundled_of self.old }
         ensures kept { OnErr result (IsSameParser self.old self.new) }
     {
         push_texts(&mut self.inputs, inputs)
@@ -162,6 +192,7 @@ impl Parser {
         ensures inputs { IfOk result (λ p.
             inputs_of p.now ≡ inputs_of self.old ++ part_views inputs.now) }
         ensures includes { IfOk result (λ p. includes_of p.now ≡ includes_of self.old) }
+        ensures bundled { IfOk result (λ p. bundled_of p.now ≡ bundled_of self.old) }
         ensures same_reference { IfOk result (λ p. p.ghost_name ≡ self.entry.ghost_name) }
     {
         self.push_inputs(inputs)?;
@@ -172,8 +203,8 @@ impl Parser {
     ///
     /// All inputs get their proto paths before any file is read: the error is L3 or L11 of the
     /// first one that gets none. Then each input is read at its own path, and its imports are
-    /// looked for in the includes and among the files that this library brings: the errors are
-    /// those of the run.
+    /// looked for in the includes and then among the bundled files: the errors are those of the
+    /// run.
     ///
     /// ```
     /// let parsed = parser.parse_and_typecheck(&rt)?;
@@ -183,14 +214,16 @@ impl Parser {
         &self,
         rt: &R,
     ) -> Result<ParsedAndTypechecked, RunFault>
-        ensures parsed { IfOk result (IsParsed (includes_of self.now) (inputs_of self.now)) }
-        ensures fault { IfErr result (TellsFault (includes_of self.now) (inputs_of self.now)) }
+        ensures parsed { IfOk result (IsParsed (bundled_of self.now)
+            (includes_of self.now) (inputs_of self.now)) }
+        ensures fault { IfErr result (TellsFault (bundled_of self.now)
+            (includes_of self.now) (inputs_of self.now)) }
         ensures caused { IfErr result (λ f.
             IsCaused (MayFind (includes_of self.now)) MayReadAnything f) }
     {
         let alloc = rt.alloc();
         let names = proto_paths_of(alloc, &self.includes, &self.inputs)?;
-        let files = run_over_folders(rt, alloc, &self.includes, &self.inputs, &names)?;
+        let files = self.run_over_folders(rt, &names)?;
         Ok(ParsedAndTypechecked {
             relative_paths: names,
             file_descriptors: files,
@@ -210,8 +243,10 @@ impl Parser {
         &self,
         rt: &R,
     ) -> Result<FileDescriptorSet, RunFault>
-        ensures set { IfOk result (IsSetOfInputs (includes_of self.now) (inputs_of self.now)) }
-        ensures fault { IfErr result (TellsFault (includes_of self.now) (inputs_of self.now)) }
+        ensures set { IfOk result (IsSetOfInputs (bundled_of self.now)
+            (includes_of self.now) (inputs_of self.now)) }
+        ensures fault { IfErr result (TellsFault (bundled_of self.now)
+            (includes_of self.now) (inputs_of self.now)) }
         ensures caused { IfErr result (λ f.
             IsCaused (MayFind (includes_of self.now)) MayReadAnything f) }
     {
@@ -241,12 +276,62 @@ impl Parser {
     /// }
     /// ```
     pub fn check<R: Files + AllocGlobal>(&self, rt: &R) -> Result<Vec<FileReport>, RunFault>
-        ensures reports { IfOk result (AreReported (includes_of self.now) (inputs_of self.now)) }
-        ensures fault { IfErr result (TellsCheckFault (includes_of self.now) (inputs_of self.now)) }
+        ensures reports { IfOk result (AreReported (bundled_of self.now)
+            (includes_of self.now) (inputs_of self.now)) }
+        ensures fault { IfErr result (TellsCheckFault (bundled_of self.now)
+            (includes_of self.now) (inputs_of self.now)) }
+    {
+        let names = proto_paths_of(rt.alloc(), &self.includes, &self.inputs)?;
+        self.check_over_folders(rt, &names)
+    }
+
+    /// The result of the run over the inputs by these proto paths, with imports from the includes.
+    fn run_over_folders<R: Files + AllocGlobal>(
+        &self,
+        rt: &R,
+        names: &[ProtoPathBuf],
+    ) -> Result<Vec<FileDescriptorProto>, RunFault>
+        requires { length names.now ≡ length self.now.inputs.items }
+        ensures ran { RanOverFolders (bundled_of self.now) (includes_of self.now)
+            (inputs_of self.now) (map path_buf_text names.now) result }
+        ensures caused { IfErr result (λ f.
+            IsCaused (MayFind (includes_of self.now)) MayReadAnything f) }
     {
         let alloc = rt.alloc();
-        let names = proto_paths_of(alloc, &self.includes, &self.inputs)?;
-        check_over_folders(rt, alloc, &self.includes, &self.inputs, &names)
+        let folders = text_slices(alloc, &self.includes)?;
+        let resolver = fs_resolver(rt, alloc, &folders)?;
+        let reader = FsReader::new(rt);
+        let given = place_inputs(alloc, &self.inputs, names)?;
+        run_inputs(alloc, &given, &resolver, &reader, self.bundled()).result
+    }
+
+    /// The result of the check of the inputs by these proto paths, with imports from the includes.
+    fn check_over_folders<R: Files + AllocGlobal>(
+        &self,
+        rt: &R,
+        names: &[ProtoPathBuf],
+    ) -> Result<Vec<FileReport>, RunFault>
+        requires { length names.now ≡ length self.now.inputs.items }
+        ensures checked { CheckedOverFolders (bundled_of self.now) (includes_of self.now)
+            (inputs_of self.now) (map path_buf_text names.now) result }
+    {
+        let alloc = rt.alloc();
+        let folders = text_slices(alloc, &self.includes)?;
+        let resolver = fs_resolver(rt, alloc, &folders)?;
+        let reader = FsReader::new(rt);
+        let given = place_inputs(alloc, &self.inputs, names)?;
+        check_inputs(alloc, &given, &resolver, &reader, self.bundled()).result
+    }
+
+    /// The table of the bundled files.
+    fn bundled(&self) -> &'static [(&'static str, &'static str)]
+        ensures { rows result.now ≡ bundled_of self.now }
+    {
+        if self.google_files {
+            google_files()
+        } else {
+            bundled_files()
+        }
     }
 }
 
@@ -270,46 +355,6 @@ fn push_texts(texts: &mut Vec<String>, others: &[&str]) -> Result<(), AllocError
     let mut copies = copy_texts(*texts.allocator(), others)?;
     texts.append(&mut copies)?;
     Ok(())
-}
-
-/// The result of the run over these inputs by their proto paths, with imports from these includes.
-fn run_over_folders<R: Files + AllocGlobal>(
-    rt: &R,
-    alloc: Global,
-    includes: &[String],
-    inputs: &[String],
-    names: &[ProtoPathBuf],
-) -> Result<Vec<FileDescriptorProto>, RunFault>
-    requires { length names.now ≡ length inputs.now }
-    ensures ran { RanOverFolders (map string_bytes includes.now) (map string_bytes inputs.now)
-        (map path_buf_text names.now) result }
-    ensures caused { IfErr result (λ f.
-        IsCaused (MayFind (map string_bytes includes.now)) MayReadAnything f) }
-{
-    let folders = text_slices(alloc, includes)?;
-    let resolver = fs_resolver(rt, alloc, &folders)?;
-    let reader = FsReader::new(rt);
-    let given = place_inputs(alloc, inputs, names)?;
-    run_inputs(alloc, &given, &resolver, &reader, bundled_files()).result
-}
-
-/// The result of the check of these inputs by their proto paths, with imports from these includes.
-fn check_over_folders<R: Files + AllocGlobal>(
-    rt: &R,
-    alloc: Global,
-    includes: &[String],
-    inputs: &[String],
-    names: &[ProtoPathBuf],
-) -> Result<Vec<FileReport>, RunFault>
-    requires { length names.now ≡ length inputs.now }
-    ensures checked { CheckedOverFolders (map string_bytes includes.now)
-        (map string_bytes inputs.now) (map path_buf_text names.now) result }
-{
-    let folders = text_slices(alloc, includes)?;
-    let resolver = fs_resolver(rt, alloc, &folders)?;
-    let reader = FsReader::new(rt);
-    let given = place_inputs(alloc, inputs, names)?;
-    check_inputs(alloc, &given, &resolver, &reader, bundled_files()).result
 }
 
 /// The texts, lent.

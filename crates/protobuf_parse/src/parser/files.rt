@@ -6,7 +6,7 @@ ghost use Rattle.protobuf_parse.specs.Includes.{includes_text, part_views};
 ghost use Rattle.protobuf_parse.specs.Folders.{IsTriedAt, MayFind, path_tried};
 
 use crate::parser::includes::list_includes;
-use crate::parser::search::{LooksInIncludes, first_found};
+use crate::parser::search::{LooksInIncludes, first_found, join_include};
 use protobuf_parse_base::proto_path::ProtoPath;
 use protobuf_parse_run::{
     InputReader, ProtoPathResolver, ReadInputFault, ResolveFault, ResolvedProtoFile,
@@ -146,19 +146,6 @@ fn read_whole<R: Files + AllocGlobal>(rt: &R, path: &str) -> io::Result<Vec<u8>>
     }
     file.read_to_end(&mut content)?;
     Ok(content)
-}
-
-/// Where the path is looked for in an include: the include, a slash, and the path. An empty include
-/// adds nothing, and a slash at its end isn't doubled.
-fn join_include(alloc: Global, include: &str, path: ProtoPath<'_>) -> Result<String, AllocError>
-    ensures { IfOk result (λ s. string_bytes s ≡ path_tried include.now (path_text path.entry)) }
-{
-    let mut file = String::from_str(alloc, include)?;
-    if !include.is_empty() && !include.as_bytes().ends_with(b"/") {
-        file.push_str("/")?;
-    }
-    file.push_str(path.to_str())?;
-    Ok(file)
 }
 
 /// Reads inputs from the file system, at their paths as they were given.

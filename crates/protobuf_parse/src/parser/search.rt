@@ -1,12 +1,12 @@
 //! Which of several includes has a file.
 
-ghost use Rattle.std.specs.Prelude.{map, string_bytes};
+ghost use Rattle.std.specs.Prelude.{◌≡◌, IfOk, map, string_bytes};
 ghost use Rattle.protobuf_parse_base.specs.PathViews.{path_text};
-ghost use Rattle.protobuf_parse.specs.Folders.{IsFirstFound};
+ghost use Rattle.protobuf_parse.specs.Folders.{IsFirstFound, path_tried};
 
 use protobuf_parse_base::proto_path::ProtoPath;
 use protobuf_parse_run::{ResolveFault, ResolvedProtoFile};
-use std::alloc::Global;
+use std::alloc::{AllocError, Global};
 
 /// Looks for files in one include at a time.
 pub trait LooksInIncludes {
@@ -47,4 +47,17 @@ pub fn first_found<L: LooksInIncludes>(
         }
     }
     Ok(None)
+}
+
+/// Where the path is looked for in an include: the include, a slash, and the path. An empty include
+/// adds nothing, and a slash at its end isn't doubled. The one error is that memory is short.
+pub fn join_include(alloc: Global, include: &str, path: ProtoPath<'_>) -> Result<String, AllocError>
+    ensures { IfOk result (λ s. string_bytes s ≡ path_tried include.now (path_text path.entry)) }
+{
+    let mut file = String::from_str(alloc, include)?;
+    if !include.is_empty() && !include.as_bytes().ends_with(b"/") {
+        file.push_str("/")?;
+    }
+    file.push_str(path.to_str())?;
+    Ok(file)
 }

@@ -1,6 +1,6 @@
 //! The options message of each construct, from the statements that set its options. It is there
-//! where a statement stands. An option that the last statement with its name
-//! sets to what it can't be is as one that isn't set.
+//! where a statement stands. An option that the last statement with its name sets to what it can't
+//! be is as one that isn't set.
 
 ghost use Rattle.std.specs.Prelude.{◌≡◌, option_map, IfOk};
 ghost use Rattle.protobuf_parse_model.specs.Options as seen;

@@ -8,4 +8,4 @@ pub returns : goal.returns
 returns c =
     subst (λ (names : List Text). Passes c.check_names.result
     (flat_map (name_faults c.args.seen.now) names))
-    c.names_listed.ensures c.check_names.ensures
+    c.listed_names.ensures c.check_names.ensures

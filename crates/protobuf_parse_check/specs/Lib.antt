@@ -1,0 +1,5 @@
+pub mod Trimmed
+pub mod Gathered
+pub mod Reports
+pub mod Judging
+pub mod SoFar

@@ -1,0 +1,16 @@
+pub mod Learning
+pub mod Machine
+pub mod Standing
+pub mod Adding
+pub mod Meeting
+pub mod Stacks
+pub mod Turning
+pub mod Looping
+pub mod Holding
+pub mod Inputs
+pub mod Following
+pub mod HeldReads
+pub mod Settling
+pub mod Fronting
+pub mod Untold
+pub mod Asking

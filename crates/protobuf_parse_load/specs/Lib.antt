@@ -1,0 +1,6 @@
+pub mod Steps
+pub mod Loads
+pub mod Laws
+pub mod StepLists
+pub mod Requests
+pub mod Frames
