@@ -79,8 +79,11 @@ module _ (files : Files) (p : Text) (t : FileSyntax) where
   listed extension name h =
       kept-path (brings files extension p) name (names_reached files extension p)
       (occurs name (names_reached files extension p)
-      (omega (arith, ltb-true 1 (occurrences name (names_reached files extension p))
-      (first (reaches_twice files extension name p) _ h)))) h
+      (omega (
+        arith,
+        ltb-true 1 (occurrences name (names_reached files extension p))
+            (first (reaches_twice files extension name p) _ h),
+      ))) h
     where
       first : (a b : Bool) → (a && b) ≡ true → a ≡ true
       first true b k = refl

@@ -33,93 +33,93 @@ module _ (c : Checked) (loaded : List LoadedEntry) (tables : Tables) (before aft
     (reach sight : List ℕ)
     (reaches : AreJoined held_as.Reach loaded (below c loaded tables before after p t s) reach)
     (sees : AreJoined held_as.HandedOn loaded (below c loaded tables before after p t s) sight)
-    where
-  abbrev files : Files
-  files = files_of c
+  where
+    abbrev files : Files
+    files = files_of c
 
-  abbrev with_p : List (Text × FileSyntax)
-  with_p = with_next_path c loaded tables before after p t s
+    abbrev with_p : List (Text × FileSyntax)
+    with_p = with_next_path c loaded tables before after p t s
 
-  abbrev descriptors : List FileDescriptor
-  descriptors = descriptors_next loaded sight p t
+    abbrev descriptors : List FileDescriptor
+    descriptors = descriptors_next loaded sight p t
 
-  picked-by : (ns : List ℕ) → picked (with_next loaded t) ns
-      ≡ trees_at files.trees (paths_by with_p ns)
-  picked-by ns =
-      ap (λ (ts : List FileSyntax). picked ts ns) (next-trees loaded p t)
-      ∙ picked-are files.trees with_p ns
-      (agrees-p files loaded tables c.reads p t (below c loaded tables before after p t s)
-      (next c loaded tables before after p t s) reach sight reaches sees)
+    picked-by : (ns : List ℕ) → picked (with_next loaded t) ns
+        ≡ trees_at files.trees (paths_by with_p ns)
+    picked-by ns =
+        ap (λ (ts : List FileSyntax). picked ts ns) (next-trees loaded p t)
+        ∙ picked-are files.trees with_p ns
+        (agrees-p files loaded tables c.reads p t (below c loaded tables before after p t s)
+        (next c loaded tables before after p t s) reach sight reaches sees)
 
-  pub picked-reach : picked (with_next loaded t) reach ≡ trees_at files.trees (c.reached p)
-  picked-reach = picked-by reach
-      ∙ ap (trees_at files.trees)
-      (reach-is c loaded tables before after p t s reach sight reaches sees)
+    pub picked-reach : picked (with_next loaded t) reach ≡ trees_at files.trees (c.reached p)
+    picked-reach = picked-by reach
+        ∙ ap (trees_at files.trees)
+        (reach-is c loaded tables before after p t s reach sight reaches sees)
 
-  pub picked-sight : picked (with_next loaded t) sight ≡ trees_at files.trees (c.seen p)
-  picked-sight = picked-by sight
-      ∙ ap (trees_at files.trees)
-      (sight-is c loaded tables before after p t s reach sight reaches sees)
+    pub picked-sight : picked (with_next loaded t) sight ≡ trees_at files.trees (c.seen p)
+    picked-sight = picked-by sight
+        ∙ ap (trees_at files.trees)
+        (sight-is c loaded tables before after p t s reach sight reaches sees)
 
-  pub twice-same : (extension : Bool) (name : Text)
-      → twice_over (with_next loaded t) reach extension name
-      ≡ reaches_twice files extension name p
-  twice-same extension name =
-      ap (λ (ts : List FileSyntax). nat_lt 1
-      (occurrences name (flat_map (full_names extension) ts)))
-      picked-reach
+    pub twice-same : (extension : Bool) (name : Text)
+        → twice_over (with_next loaded t) reach extension name
+        ≡ reaches_twice files extension name p
+    twice-same extension name =
+        ap (λ (ts : List FileSyntax). nat_lt 1
+        (occurrences name (flat_map (full_names extension) ts)))
+        picked-reach
 
-  pub own-same : own_over (with_next loaded t) sight t ≡ own_faults files p (Some t)
-  own-same = ap (λ (ts : List FileSyntax). file_faults (environment ts no_customs t) t)
-      picked-sight
+    pub own-same : own_over (with_next loaded t) sight t ≡ own_faults files p (Some t)
+    own-same = ap (λ (ts : List FileSyntax). file_faults (environment ts no_customs t) t)
+        picked-sight
 
-  pub plain-same : plain_over (with_next loaded t) sight p t ≡ plain_of files p t
-  plain-same = ap (λ (ts : List FileSyntax). file_of (environment ts no_customs t) p t)
-      picked-sight
+    pub plain-same : plain_over (with_next loaded t) sight p t ≡ plain_of files p t
+    plain-same = ap (λ (ts : List FileSyntax). file_of (environment ts no_customs t) p t)
+        picked-sight
 
-  plains : DifferOnlyInOptions descriptors (map (described_by files) with_p)
-  plains =
-      let before_it = map (described_by files) (named_trees loaded) in
-      let own = plain_over (with_next loaded t) sight p t in
-      map-append bare_file (map descriptor_in loaded) (own ∷ [])
-      ∙ ap (λ bs. bs ++ bare_file own ∷ []) s.alike
-      ∙ ap (λ d. map bare_file before_it ++ bare_file d ∷ []) plain-same
-      ∙ sym (map-append bare_file before_it (plain_of files p t ∷ []))
-      ∙ ap (map bare_file) (sym (map-append (described_by files) (named_trees loaded)
-      ((p, t) ∷ [])))
+    plains : DifferOnlyInOptions descriptors (map (described_by files) with_p)
+    plains =
+        let before_it = map (described_by files) (named_trees loaded) in
+        let own = plain_over (with_next loaded t) sight p t in
+        map-append bare_file (map descriptor_in loaded) (own ∷ [])
+        ∙ ap (λ bs. bs ++ bare_file own ∷ []) s.alike
+        ∙ ap (λ d. map bare_file before_it ++ bare_file d ∷ []) plain-same
+        ∙ sym (map-append bare_file before_it (plain_of files p t ∷ []))
+        ∙ ap (map bare_file) (sym (map-append (described_by files) (named_trees loaded)
+        ((p, t) ∷ [])))
 
-  plains-by : (ns : List ℕ)
-      → DifferOnlyInOptions (picked_descriptors descriptors ns)
-      (plains_at files (paths_by with_p ns))
-  plains-by ns =
-      picked-alike descriptors (map (described_by files) with_p) ns plains
-      ∙ ap (map bare_file) (plains-are files with_p ns
-      (agrees-p files loaded tables c.reads p t (below c loaded tables before after p t s)
-      (next c loaded tables before after p t s) reach sight reaches sees))
+    plains-by : (ns : List ℕ)
+        → DifferOnlyInOptions (picked_descriptors descriptors ns)
+        (plains_at files (paths_by with_p ns))
+    plains-by ns =
+        picked-alike descriptors (map (described_by files) with_p) ns plains
+        ∙ ap (map bare_file) (plains-are files with_p ns
+        (agrees-p files loaded tables c.reads p t (below c loaded tables before after p t s)
+        (next c loaded tables before after p t s) reach sight reaches sees))
 
-  pub customs-same : customs_over descriptors reach sight ≡ customs_of files p
-  customs-same =
-      customs_ignore_options (picked_descriptors descriptors reach)
-      (plains_at files (paths_by with_p reach)) (picked_descriptors descriptors sight)
-      (plains_at files (paths_by with_p sight)) (plains-by reach) (plains-by sight)
-      ∙ ap (λ (ps : List Text). customs_by_files (plains_at files ps)
-      (plains_at files (paths_by with_p sight)))
-      (reach-is c loaded tables before after p t s reach sight reaches sees)
-      ∙ ap (λ (ps : List Text). customs_by_files (plains_at files (c.reached p))
-      (plains_at files ps)) (sight-is c loaded tables before after p t s reach sight reaches sees)
+    pub customs-same : customs_over descriptors reach sight ≡ customs_of files p
+    customs-same =
+        customs_ignore_options (picked_descriptors descriptors reach)
+        (plains_at files (paths_by with_p reach)) (picked_descriptors descriptors sight)
+        (plains_at files (paths_by with_p sight)) (plains-by reach) (plains-by sight)
+        ∙ ap (λ (ps : List Text). customs_by_files (plains_at files ps)
+        (plains_at files (paths_by with_p sight)))
+        (reach-is c loaded tables before after p t s reach sight reaches sees)
+        ∙ ap (λ (ps : List Text). customs_by_files (plains_at files (c.reached p))
+        (plains_at files ps)) (sight-is c loaded tables before after p t s reach sight reaches sees)
 
-  pub faults-same : file_faults (environment (picked (with_next loaded t) sight)
-      (customs_over descriptors reach sight) t) t ≡ file_faults (environment_of files p t) t
-  faults-same =
-      ap (λ (ts : List FileSyntax). file_faults (environment ts
-      (customs_over descriptors reach sight) t) t) picked-sight
-      ∙ ap (λ (k : Customs). file_faults (environment (trees_at files.trees (c.seen p)) k t) t)
-      customs-same
+    pub faults-same : file_faults (environment (picked (with_next loaded t) sight)
+        (customs_over descriptors reach sight) t) t ≡ file_faults (environment_of files p t) t
+    faults-same =
+        ap (λ (ts : List FileSyntax). file_faults (environment ts
+        (customs_over descriptors reach sight) t) t) picked-sight
+        ∙ ap (λ (k : Customs). file_faults (environment (trees_at files.trees (c.seen p)) k t) t)
+        customs-same
 
-  pub descriptor-same : file_over (with_next loaded t) descriptors reach sight p t
-      ≡ file_of (environment_of files p t) p t
-  descriptor-same =
-      ap (λ (ts : List FileSyntax). file_of (environment ts
-      (customs_over descriptors reach sight) t) p t) picked-sight
-      ∙ ap (λ (k : Customs). file_of (environment (trees_at files.trees (c.seen p)) k t) p t)
-      customs-same
+    pub descriptor-same : file_over (with_next loaded t) descriptors reach sight p t
+        ≡ file_of (environment_of files p t) p t
+    descriptor-same =
+        ap (λ (ts : List FileSyntax). file_of (environment ts
+        (customs_over descriptors reach sight) t) p t) picked-sight
+        ∙ ap (λ (k : Customs). file_of (environment (trees_at files.trees (c.seen p)) k t) p t)
+        customs-same

@@ -95,8 +95,12 @@ kept-few test (s ∷ ss) = at (test s) (kept-few test ss)
         → sum_by statement_count (cond b (s ∷ filter test ss) (filter test ss))
         ≤ sum_by statement_count (s ∷ ss)
     at true more =
-        omega (arith, more, sum_by-cons statement_count s (filter test ss),
-        sum_by-cons statement_count s ss)
+        omega (
+          arith,
+          more,
+          sum_by-cons statement_count s (filter test ss),
+          sum_by-cons statement_count s ss,
+        )
     at false more = omega (arith, more, sum_by-cons statement_count s ss)
 
 pub trimmed-few : (places : List Place) (t : FileSyntax) (new : TrimmedTree)

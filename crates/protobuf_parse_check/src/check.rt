@@ -17,8 +17,9 @@ use crate::judge::{Judge, judge_file};
 use crate::report::{Check, CheckLog, FileReport};
 use crate::verdict::Verdict;
 use protobuf_parse_load::{Load, LoadLog, LoadStep, LoadedFile, load_inputs};
-use protobuf_parse_run::LoadedFile as LoadedEntry;
-use protobuf_parse_run::{InputReader, ProtoPathResolver, ReadEntry, RunInput};
+use protobuf_parse_run::{
+    InputReader, LoadedFile as LoadedEntry, ProtoPathResolver, ReadEntry, RunInput,
+};
 use std::alloc::{AllocError, Global};
 
 /// Loads the inputs in turn, each file that they reach once and after its imports, and tells all

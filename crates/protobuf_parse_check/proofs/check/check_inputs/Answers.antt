@@ -44,21 +44,21 @@ returns-clause-told g c trees reached seen has listed =
     let k = loaded_of bundled log trees inputs reached seen in
     let ends = c.load_inputs-reads.ensures.told trees has in
     elim c.match-result.branch [
-      in-Ok w ↦
-        let so = subst (LoadEnds legal (read_files k) (load_of trees inputs)) w.in-Ok.is ends in
-        let ordered = is-ordered bundled log trees has inputs reached seen listed in
-        let of_load : IsLoadOf k w.in-Ok.load = record { steps = so.steps_are; files = so.loaded_are } in
-        let has_reads : HasReads (files_of k) bundled w.deref.result.now =
-            record { bundled_are = refl; reads_are = sym w.deref.ensures.value } in
-        let holds = load-holds resolve read trees inputs log so.answers in
-        subst (CheckEnds legal k inputs (load_of trees inputs)) (sym w.result-is)
-        (ends-so legal bundled log trees inputs reached seen w.in-Ok.load w.checked-result.result so
-        w.checked-result.ensures.steps w.checked-result.ensures.unread
-        (w.checked-result.ensures.clashes k ordered of_load has_reads
-        (subst (λ (rs : List ReadEntry). HoldReads inputs rs (closed_paths k.steps) k.steps)
-        (sym w.deref.ensures.value) holds))
-        (w.checked-result.ensures.files k ordered of_load))
-    | in-Err w ↦
-        subst (CheckEnds legal k inputs (load_of trees inputs)) (sym w.result-is)
-        (subst (LoadEnds legal (read_files k) (load_of trees inputs)) w.in-Err.is ends)
+      | in-Ok w ↦
+          let so = subst (LoadEnds legal (read_files k) (load_of trees inputs)) w.in-Ok.is ends in
+          let ordered = is-ordered bundled log trees has inputs reached seen listed in
+          let of_load : IsLoadOf k w.in-Ok.load = record { steps = so.steps_are; files = so.loaded_are } in
+          let has_reads : HasReads (files_of k) bundled w.deref.result.now =
+          record { bundled_are = refl; reads_are = sym w.deref.ensures.value } in
+          let holds = load-holds resolve read trees inputs log so.answers in
+          subst (CheckEnds legal k inputs (load_of trees inputs)) (sym w.result-is)
+          (ends-so legal bundled log trees inputs reached seen w.in-Ok.load w.checked-result.result so
+          w.checked-result.ensures.steps w.checked-result.ensures.unread
+          (w.checked-result.ensures.clashes k ordered of_load has_reads
+          (subst (λ (rs : List ReadEntry). HoldReads inputs rs (closed_paths k.steps) k.steps)
+          (sym w.deref.ensures.value) holds))
+          (w.checked-result.ensures.files k ordered of_load))
+      | in-Err w ↦
+          subst (CheckEnds legal k inputs (load_of trees inputs)) (sym w.result-is)
+          (subst (LoadEnds legal (read_files k) (load_of trees inputs)) w.in-Err.is ends)
     ]

@@ -136,18 +136,18 @@ returns-clause-judged c k path before after ordered cuts is so_far =
       gives = subst (λ (names : Declarations). GivesVerdict loaded (with_next loaded t) names
           c.in_ok-sights.sights
           (record {
-        any = c.in_ok-tree.field-0.loses;
-        public = c.in_ok-tree.field-0.loses_public;
-      }) path t
+            any = c.in_ok-tree.field-0.loses;
+            public = c.in_ok-tree.field-0.loses_public;
+          }) path t
           c.args.judge.now.verdicts.items c.args.judge.now.brought
           c.verdict_of.new.judge.brought c.in_ok-descriptor.descriptor
           c.in_ok-descriptor.verdict) (sym c.in_ok-descriptor.ensures.names)
           (subst (λ (q : Text). GivesVerdict loaded (with_next loaded t) c.add.new.self
           c.in_ok-sights.sights
           (record {
-        any = c.in_ok-tree.field-0.loses;
-        public = c.in_ok-tree.field-0.loses_public;
-      }) q t
+            any = c.in_ok-tree.field-0.loses;
+            public = c.in_ok-tree.field-0.loses_public;
+          }) q t
           c.args.judge.now.verdicts.items c.args.judge.now.brought
           c.verdict_of.new.judge.brought c.in_ok-descriptor.descriptor
           c.in_ok-descriptor.verdict) (c.deref-2.ensures ∙ is.path) e);
