@@ -16,7 +16,10 @@ from pathlib import Path
 PAGE = Path("docs/definitions.md")
 MARK = "-- No public clause rests on this file.\n"
 CRATES = "base grammar lexer syntax model elaboration wire options".split()
-CRATES += "descriptor_set listing rules index google run".split() + [""]
+CRATES += "descriptor_set listing rules index google run load check".split() + [""]
+CRATES += "diagnostics files command".split()
+# Parts of a run that the load and the check share with it: no caller has a use for them.
+SHARED = "elaborated loaded reach repeats tables LoadedFile compared content_of read_own".split()
 TOKEN = re.compile(r"[^\s(){};,λ\[\]`:!&]+")
 USE = r"(?:^|(?<=\n))\s*(?:ghost |pub |unfoldable )*use (Rattle\.[^\s{;]+?)"
 SIGNATURE = re.compile(
@@ -123,7 +126,10 @@ def exported(crate):
     for found in re.finditer(r"pub use [\w:]+?(?:::\{([^}]*)\}|::(\w+));", text):
         names |= {n.strip() for n in (found.group(1) or found.group(2)).split(",") if n.strip()}
     names |= set(re.findall(r"(?m)^pub fn (\w+)", text))
-    return names, set(re.findall(r"pub mod (\w+)", text))
+    modules = set(re.findall(r"pub mod (\w+)", text))
+    if crate == "run":
+        return names.difference(SHARED), modules.difference(SHARED)
+    return names, modules
 
 
 def is_public(path, name, names, modules):

@@ -33,10 +33,11 @@ use Rattle.protobuf_parse_check.specs.declared.verdict.Verdict.{Verdict}
 use Rattle.protobuf_parse_check.specs.Gathered.{AreBrought, brings_any, brought_fault}
 use Rattle.protobuf_parse_check.specs.Gathered.{brought_faults}
 use Rattle.protobuf_parse_check.specs.Judging.{GivesVerdict, any_with, has_fault, has_lost}
-use Rattle.protobuf_parse_check.specs.Judging.{has_trouble, is_hidden_by, is_wrong, looks_over}
+use Rattle.protobuf_parse_check.specs.Judging.{has_trouble, is_faulty_state, is_hidden_by}
+use Rattle.protobuf_parse_check.specs.Judging.{is_wrong, looks_over}
 use Rattle.protobuf_parse_check.specs.Judging.{repeat_over, repeats_over, shown_by}
 use Rattle.protobuf_parse_check.specs.Reports.{Checked, descriptor_of, faults_of}
-use Rattle.protobuf_parse_check.specs.Reports.{files_of, is_faulty, is_faulty_state, is_faulty_tree}
+use Rattle.protobuf_parse_check.specs.Reports.{files_of, is_faulty, is_faulty_tree}
 use Rattle.protobuf_parse_check.specs.Reports.{is_hidden}
 use Rattle.protobuf_parse_check.specs.Reports.{is_of_duplicate, is_of_unfound, is_settled}
 use Rattle.protobuf_parse_check.specs.Reports.{is_troubled, loses, loses_public, misses_names}

@@ -46,7 +46,9 @@ use Rattle.protobuf_parse_check.specs.declared.judged.Judged.{Judged}
 use Rattle.protobuf_parse_check.specs.declared.repeats.Brought.{Brought}
 use Rattle.protobuf_parse_check.specs.declared.verdict.Verdict.{Verdict}
 use Rattle.protobuf_parse_check.specs.Gathered.{kind_of}
-use Rattle.protobuf_parse_check.specs.Reports.{is_faulty_state, is_of_duplicate, is_of_unfound}
+use Rattle.protobuf_parse_check.specs.declared.report.FileState.{FileState}
+use Rattle.protobuf_parse_check.specs.declared.report.FileState.TheVariants.{Faulty}
+use Rattle.protobuf_parse_check.specs.Reports.{is_of_duplicate, is_of_unfound}
 use Rattle.protobuf_parse_check.specs.Reports.{is_same_file, stands_at, state_by}
 use Rattle.protobuf_parse_check.specs.Trimmed.{same_place, told_place, told_places}
 
@@ -241,6 +243,11 @@ shown_by misses repeats faults =
 abbrev pub has_trouble : Option Verdict → Bool
 has_trouble None = false
 has_trouble (Some v) = v.troubled
+
+-- whether a file is faulty
+abbrev pub is_faulty_state : FileState → Bool
+is_faulty_state Faulty = true
+is_faulty_state _ = false
 
 abbrev pub has_fault : Option Verdict → Bool
 has_fault None = false

@@ -113,17 +113,13 @@ faults_of c p t =
 
 -- ---- what became of it
 
--- whether a file is
-abbrev pub is_faulty_state : FileState → Bool
-is_faulty_state Faulty = true
-is_faulty_state _ = false
-
 -- whether something is told of the file
 abbrev pub is_faulty_tree : Checked → Text → Option FileSyntax → Bool
 is_faulty_tree c p None = false
 is_faulty_tree c p (Some t) = has_told c.steps p t
     || (brings_any (files_of c) p || not (is_nothing (faults_of c p (trimmed c.steps p t))))
 
+-- so of a file by its path
 abbrev pub is_faulty : Checked → Text → Bool
 is_faulty c p = is_faulty_tree c p (c.whole p)
 
@@ -131,6 +127,7 @@ is_faulty c p = is_faulty_tree c p (c.whole p)
 abbrev pub state_by : (faulty below : Bool) → FileState
 state_by faulty below = if faulty then Faulty else if below then HeldUp else Sound
 
+-- what became of the file of this path
 abbrev pub state_of : Checked → Text → FileState
 state_of c p = state_by (is_faulty c p) (list_any (is_faulty c) (c.reached p))
 
@@ -182,6 +179,7 @@ clash_in files (held n p read) =
     if is_same_file files p read then [] else record { input = n; path = p; read = read } ∷ []
 clash_in files _ = []
 
+-- those of several steps
 abbrev pub clashes_in : Files → List Step → List Clash
 clashes_in files steps = flat_map (clash_in files) steps
 

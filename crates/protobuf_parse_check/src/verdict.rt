@@ -4,6 +4,7 @@ ghost use Rattle.std.specs.Prelude.{◌≡◌, ◌&&◌, ◌||◌, not, filter, 
 ghost use Rattle.std.specs.List.{list_any};
 ghost use Rattle.protobuf_parse_model.specs.Faults as elaborating;
 ghost use Rattle.protobuf_parse_model.specs.Faults.{fault_view, found};
+ghost use Rattle.protobuf_parse_check.specs.Judging as judging;
 ghost use Rattle.protobuf_parse_check.specs.Reports as reports;
 ghost use Rattle.protobuf_parse_check.specs.Reports.{stands_at};
 ghost use Rattle.protobuf_parse_check.specs.Judging.{any_with, has_fault, has_lost, has_trouble};
@@ -73,7 +74,7 @@ fn is_faulty(verdicts: &[Verdict], number: u32) -> bool
 }
 
 fn is_faulty_state(state: FileState) -> bool
-    ensures { result ≡ reports.is_faulty_state state }
+    ensures { result ≡ judging.is_faulty_state state }
 {
     match state {
         FileState::Faulty => true,

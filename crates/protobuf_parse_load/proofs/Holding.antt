@@ -20,7 +20,8 @@ use Rattle.protobuf_parse_load.specs.declared.request.Sources.{Sources}
 use Rattle.protobuf_parse_load.specs.Frames.{AddsStep, Loads, RemembersReads, chain_in, raised}
 use Rattle.protobuf_parse_load.specs.Loads.{steps_view}
 use Rattle.protobuf_parse_load.specs.Requests.{legal_by}
-use Rattle.protobuf_parse_load.specs.Steps.{At, held, holds, holds_known, is_loaded, known}
+use Rattle.protobuf_parse_load.specs.StepLists.{is_loaded}
+use Rattle.protobuf_parse_load.specs.Steps.{At, held, holds, holds_known, known}
 use Rattle.protobuf_parse_load.proofs.Meeting.{cut-now, grows-same}
 use Rattle.protobuf_parse_load.proofs.Machine.{extends-holds}
 use Rattle.protobuf_parse_load.proofs.Standing.{answers-push, holding, remembers-holds}

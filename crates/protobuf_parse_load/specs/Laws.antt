@@ -19,6 +19,7 @@ use Rattle.protobuf_parse_load.specs.Steps.{load_reads, load_steps, opened, told
 
 -- ---- nothing is left out
 
+-- equal places
 abbrev pub same_place : Place → Place → Bool
 same_place a b = nat_eq a.line b.line && nat_eq a.col b.col
 
@@ -100,6 +101,7 @@ abbrev pub asked_at : Option Input → Asked
 asked_at None = the_resolver
 asked_at (Some i) = asked_of i
 
+-- so of a step of a load of these inputs
 abbrev pub asked_for : List Input → AskedBy → Asked
 asked_for inputs (by_input n) = asked_at (slice_get inputs n)
 asked_for inputs (by_import p place) = the_resolver
@@ -122,6 +124,7 @@ event_of inputs (told by p why) = told_event (asked_for inputs by) p why
 event_of inputs (closed p h) = elab p
 event_of inputs (held n p r) = check r (own_at (slice_get inputs n)) p
 
+-- the events of a run at the steps of a load
 abbrev pub load_events : Trees → List Input → List Event
 load_events trees inputs = map (event_of inputs) (load_steps trees inputs)
 

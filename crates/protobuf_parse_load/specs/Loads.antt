@@ -41,6 +41,7 @@ step_view (step.Told by path why) = told (asker_view by) (string_bytes path) (wh
 step_view (step.Closed path height) = closed (string_bytes path) height
 step_view (step.Held input path read) = held input (string_bytes path) read
 
+-- so are several
 abbrev pub steps_view : List LoadStep → List Step
 steps_view steps = map step_view steps
 

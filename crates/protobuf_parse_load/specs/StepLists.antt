@@ -1,11 +1,12 @@
 -- No public clause rests on this file.
 -- The steps of a load so far, and a map of what they say of each path.
 use Rattle.std.specs.Prelude.{◌≡◌, List, Option, Some, None, String, bytes_eq}
-use Rattle.std.specs.Prelude.{if◌then◌else◌}
+use Rattle.std.specs.Prelude.{Bool, true, false, if◌then◌else◌}
 use Rattle.std.specs.BTreeMap.{BTreeMap, get_by_text}
 use Rattle.std.specs.Global.{Global}
 use Rattle.protobuf_parse_model.specs.Descriptors.{Text}
 use Rattle.protobuf_parse_load.specs.declared.known.Known.{Known}
+use Rattle.protobuf_parse_load.specs.declared.known.Known.TheVariants.{Unreadable, Loaded}
 use Rattle.protobuf_parse_load.specs.declared.step.LoadStep.{LoadStep}
 use Rattle.protobuf_parse_load.specs.Loads.{steps_view}
 use Rattle.protobuf_parse_load.specs.Steps.{Step, known, known_by}
@@ -16,6 +17,12 @@ pub record StepList : Type 0 where
 
 abbrev pub PathMap : Type 0
 PathMap = BTreeMap (String Global) Known
+
+-- whether the file of a path is loaded, by what is known of it
+abbrev pub is_loaded : Option Known → Bool
+is_loaded None = false
+is_loaded (Some (Unreadable n)) = false
+is_loaded (Some (Loaded h)) = true
 
 -- the map says of each path what the steps say
 pub record HasKnown (paths : PathMap) (steps : List LoadStep) : Type 0 where

@@ -2,7 +2,7 @@
 -- once, its imports are loaded first, and nothing ends it. What can't be followed is told where it
 -- stands, and is as if it were absent.
 use Rattle.std.specs.Prelude.{ℕ, zero, suc, List, [], ◌∷◌, ◌++◌, length, max, nat_le, Option, Some}
-use Rattle.std.specs.Prelude.{None, Bool, true, false, bytes_eq, if◌then◌else◌}
+use Rattle.std.specs.Prelude.{None, bytes_eq, if◌then◌else◌}
 use Rattle.protobuf_parse_lexer.specs.declared.lexer.token.Place.{Place}
 use Rattle.protobuf_parse_syntax.specs.Dependencies.{imports}
 use Rattle.protobuf_parse_syntax.specs.Trees.{FileSyntax, ImportSyntax}
@@ -54,12 +54,6 @@ known_by p (held n q r) rest = rest
 abbrev pub known : Text → List Step → Option Known
 known p [] = None
 known p (s ∷ steps) = known_by p s (known p steps)
-
--- whether its file is loaded
-abbrev pub is_loaded : Option Known → Bool
-is_loaded None = false
-is_loaded (Some (Unreadable n)) = false
-is_loaded (Some (Loaded h)) = true
 
 -- ---- a load at a statement of a file
 
@@ -164,6 +158,7 @@ holds_known n p own a (Some (Loaded h)) = record {
   height = a.height;
 }
 
+-- so of an input: one that the resolver finds is not held against anything
 abbrev pub holds : ℕ → Input → At → At
 holds n (named p) a = a
 holds n (at p own) a = holds_known n p own a (known p a.steps)
@@ -190,15 +185,13 @@ nothing = record { steps = []; reads = []; unread = []; height = 0 }
 abbrev pub load_of : Trees → List Input → At
 load_of trees inputs = loads trees 0 inputs nothing
 
+-- its steps
 abbrev pub load_steps : Trees → List Input → List Step
 load_steps trees inputs = (load_of trees inputs).steps
 
+-- its reads
 abbrev pub load_reads : Trees → List Input → List FileRead
 load_reads trees inputs = (load_of trees inputs).reads
-
--- those of the reads that gave no tree
-abbrev pub load_unread : Trees → List Input → List FileRead
-load_unread trees inputs = (load_of trees inputs).unread
 
 -- the files that are loaded at these steps, in order: each behind those that it imports
 abbrev pub closed_paths : List Step → List Text

@@ -13,7 +13,8 @@ ghost use Rattle.protobuf_parse_load.specs.Frames.{MeetsFile, MissesFile, OpensF
 ghost use Rattle.protobuf_parse_load.specs.Frames.{RemembersReads};
 ghost use Rattle.protobuf_parse_load.specs.Loads.{steps_view, why_view};
 ghost use Rattle.protobuf_parse_load.specs.Requests.{asked_in, asker_in, legal_by, path_in};
-ghost use Rattle.protobuf_parse_load.specs.Steps.{held, holds, is_loaded, is_too_long, known};
+ghost use Rattle.protobuf_parse_load.specs.StepLists.{is_loaded};
+ghost use Rattle.protobuf_parse_load.specs.Steps.{held, holds, is_too_long, known};
 ghost use Rattle.protobuf_parse_load.specs.Steps.{loads, meets_input, told, walks_input};
 
 use crate::known::{Known, KnownSteps};

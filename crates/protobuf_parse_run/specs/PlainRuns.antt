@@ -1,4 +1,3 @@
--- No public clause rests on this file.
 -- Descriptors without their custom options.
 use Rattle.protobuf_parse_syntax.specs.Trees.{FileSyntax}
 use Rattle.protobuf_parse_model.specs.Descriptors.{Text, FileDescriptor}

@@ -9,7 +9,8 @@ use Rattle.protobuf_parse_run.specs.Walks.{the_reader}
 use Rattle.protobuf_parse_load.specs.Frames.{AddsStep}
 use Rattle.protobuf_parse_load.specs.Loads.{steps_view}
 use Rattle.protobuf_parse_load.specs.Requests.{legal_by}
-use Rattle.protobuf_parse_load.specs.Steps.{held, is_loaded, known}
+use Rattle.protobuf_parse_load.specs.StepLists.{is_loaded}
+use Rattle.protobuf_parse_load.specs.Steps.{held, known}
 use Rattle.protobuf_parse_load.proofs.Holding.{hold-broken, hold-none, hold-other, hold-read}
 use Rattle.protobuf_parse_load.proofs.loader.hold.Goals as goal
 
