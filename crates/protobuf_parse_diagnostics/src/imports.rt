@@ -3,7 +3,7 @@
 use crate::sources::{Trees, imports_in};
 use protobuf_parse_syntax::{ImportVis, Place};
 use std::alloc::{AllocError, Global};
-use std::collections::BTreeMap;
+use std::collections::{BTreeMap, BTreeSet};
 
 /// An `import` statement.
 #[derive(Clone, Copy)]
@@ -27,7 +27,7 @@ impl<'t, 'a> Importers<'t, 'a> {
         let mut firsts = BTreeMap::new(alloc);
         for file in &trees.files {
             let origin = file.source.origin;
-            for import in imports_in(alloc, &file.tree)? {
+            for import in imports_in(alloc, file.tree)? {
                 let place = import.place;
                 firsts
                     .entry(import.path.as_path().to_str())?
@@ -53,7 +53,7 @@ pub fn import_place(
     let Some(file) = trees.of_path(from) else {
         return Ok(None);
     };
-    for import in imports_in(alloc, &file.tree)? {
+    for import in imports_in(alloc, file.tree)? {
         if import.path.as_path().to_str() == path {
             return Ok(Some(import.place));
         }
@@ -73,7 +73,7 @@ pub fn long_import(
         return Ok(None);
     };
     let long = begin_chains(alloc, trees, files)?;
-    for import in imports_in(alloc, &file.tree)? {
+    for import in imports_in(alloc, file.tree)? {
         if let Some(next) = trees.position(import.path.as_path().to_str()) {
             if is_marked(&long, next) {
                 return Ok(Some(import.place));
@@ -89,7 +89,7 @@ fn begin_chains(alloc: Global, trees: &Trees<'_>, files: usize) -> Result<Vec<bo
     let mut nexts: Vec<Vec<usize>> = Vec::new(alloc);
     let mut long: Vec<bool> = Vec::new(alloc);
     for file in &trees.files {
-        let imports = imports_in(alloc, &file.tree)?;
+        let imports = imports_in(alloc, file.tree)?;
         long.push(!imports.is_empty())?;
         let mut next = Vec::new(alloc);
         for import in imports {
@@ -122,46 +122,6 @@ fn is_marked(marked: &[bool], at: usize) -> bool {
     marked.get(at).copied().unwrap_or(false)
 }
 
-/// An import of a file, by its number among these.
-#[derive(Clone, Copy)]
-pub struct FirstImport {
-    pub number: usize,
-    pub place: Place,
-}
-
-/// Of each file, the first import of the file at this position with which it is reached.
-pub fn first_imports(
-    alloc: Global,
-    trees: &Trees<'_>,
-    from: usize,
-) -> Result<Vec<Option<FirstImport>>, AllocError> {
-    let mut firsts: Vec<Option<FirstImport>> = vec![in alloc; None; trees.files.len()]?;
-    let Some(file) = trees.files.get(from) else {
-        return Ok(firsts);
-    };
-    for (number, import) in imports_in(alloc, &file.tree)?.iter().enumerate() {
-        let place = import.place;
-        let Some(next) = trees.position(import.path.as_path().to_str()) else {
-            continue;
-        };
-        if firsts.get(next).copied().flatten().is_none() {
-            for position in reached(alloc, trees, next)? {
-                mark_first(&mut firsts, position, FirstImport { number, place });
-            }
-        }
-    }
-    Ok(firsts)
-}
-
-/// Marks the file at this position, if no import before did.
-fn mark_first(firsts: &mut [Option<FirstImport>], position: usize, import: FirstImport) {
-    if let Some(first) = firsts.get_mut(position) {
-        if first.is_none() {
-            *first = Some(import);
-        }
-    }
-}
-
 /// Which imports are followed.
 #[derive(Clone, Copy, PartialEq, Eq)]
 enum Followed {
@@ -170,13 +130,17 @@ enum Followed {
     Public,
 }
 
-/// The positions of the files that the file at this position reaches, its own first.
-pub fn reached(alloc: Global, trees: &Trees<'_>, from: usize) -> Result<Vec<usize>, AllocError> {
+/// The positions of the files that the file at this position reaches, its own too.
+pub fn reached(
+    alloc: Global,
+    trees: &Trees<'_>,
+    from: usize,
+) -> Result<BTreeSet<usize>, AllocError> {
     positions_by(alloc, trees, from, Followed::All)
 }
 
-/// The positions of the files that the file at this position sees, its own first.
-pub fn seen(alloc: Global, trees: &Trees<'_>, from: usize) -> Result<Vec<usize>, AllocError> {
+/// The positions of the files that the file at this position sees, its own too.
+pub fn seen(alloc: Global, trees: &Trees<'_>, from: usize) -> Result<BTreeSet<usize>, AllocError> {
     positions_by(alloc, trees, from, Followed::Public)
 }
 
@@ -185,14 +149,10 @@ fn positions_by(
     trees: &Trees<'_>,
     from: usize,
     which: Followed,
-) -> Result<Vec<usize>, AllocError> {
-    positions_in(alloc, &walk_from(alloc, trees, from, which)?)
-}
-
-fn positions_in(alloc: Global, walk: &[Step]) -> Result<Vec<usize>, AllocError> {
-    let mut positions = Vec::with_capacity(alloc, walk.len())?;
-    for step in walk {
-        positions.push(step.file)?;
+) -> Result<BTreeSet<usize>, AllocError> {
+    let mut positions = BTreeSet::new(alloc);
+    for step in &walk_from(alloc, trees, from, which)? {
+        positions.insert(step.file)?;
     }
     Ok(positions)
 }
@@ -211,7 +171,7 @@ fn walk_from(
     from: usize,
     which: Followed,
 ) -> Result<Vec<Step>, AllocError> {
-    let mut met = vec![in alloc; false; trees.files.len()]?;
+    let mut met: BTreeSet<usize> = BTreeSet::new(alloc);
     let mut steps: Vec<Step> = Vec::new(alloc);
     meet(&mut met, &mut steps, from, 0)?;
     for by in 0..trees.files.len() {
@@ -221,7 +181,7 @@ fn walk_from(
         let Some(file) = trees.files.get(step.file) else {
             break;
         };
-        for import in imports_in(alloc, &file.tree)? {
+        for import in imports_in(alloc, file.tree)? {
             if by > 0 && which == Followed::Public && import.vis != ImportVis::Public {
                 continue;
             }
@@ -234,16 +194,13 @@ fn walk_from(
 }
 
 fn meet(
-    met: &mut Vec<bool>,
+    met: &mut BTreeSet<usize>,
     steps: &mut Vec<Step>,
     file: usize,
     by: usize,
 ) -> Result<(), AllocError> {
-    if let Some(is_met) = met.get_mut(file) {
-        if !*is_met {
-            *is_met = true;
-            steps.push(Step { file, by })?;
-        }
+    if met.insert(file)? {
+        steps.push(Step { file, by })?;
     }
     Ok(())
 }

@@ -3,7 +3,7 @@
 use crate::declared::DeclarationPlaces;
 use crate::diagnostic::{Diagnostic, Severity};
 use crate::outline::{DeclaredKind, Outline, Ranges};
-use crate::sources::{Sources, tree_of};
+use crate::sources::{NamedTree, Sources, tree_of};
 use crate::statements::{import_statement, package_statement, repeated_import};
 use protobuf_parse_rules::{NamedKind, Rule, Violation};
 use protobuf_parse_syntax::{FieldNumberRange, FileTree, Place};
@@ -21,7 +21,8 @@ pub enum RuleLevel {
     Off,
 }
 
-/// What is told of violations in files that the run read. The one error is that memory is short.
+/// What is told of violations in files that the run read. The texts of those that have some are
+/// parsed for the places. The one error is that memory is short.
 pub fn rule_diagnostics(
     alloc: Global,
     sources: &Sources<'_>,
@@ -32,9 +33,38 @@ pub fn rule_diagnostics(
     if level == RuleLevel::Off {
         return Ok(told);
     }
-    let by_file = by_file(alloc, violations)?;
-    for (file, group) in by_file.iter() {
-        tell_file(alloc, sources, file, group, level, &mut told)?;
+    for (path, group) in by_file(alloc, violations)?.iter() {
+        let tree = match sources.of_path(path) {
+            Some(source) => tree_of(alloc, source.text)?,
+            None => None,
+        };
+        let origin = sources.origin_of(path);
+        tell_file(alloc, tree.as_ref(), origin, group, level, &mut told)?;
+    }
+    Ok(told)
+}
+
+/// [`rule_diagnostics`] of violations in files whose trees are at hand: nothing is parsed. The one
+/// error is that memory is short.
+pub fn rule_diagnostics_by_trees(
+    alloc: Global,
+    sources: &Sources<'_>,
+    trees: &[NamedTree],
+    violations: &[Violation],
+    level: RuleLevel,
+) -> Result<Vec<Diagnostic>, AllocError> {
+    let mut told = Vec::new(alloc);
+    if level == RuleLevel::Off || violations.is_empty() {
+        return Ok(told);
+    }
+    let mut by_path: BTreeMap<&str, &FileTree> = BTreeMap::new(alloc);
+    for each in trees {
+        by_path.insert(each.path.as_str(), &each.tree)?;
+    }
+    for (path, group) in by_file(alloc, violations)?.iter() {
+        let tree = by_path.get(path).copied();
+        let origin = sources.origin_of(path);
+        tell_file(alloc, tree, origin, group, level, &mut told)?;
     }
     Ok(told)
 }
@@ -54,21 +84,17 @@ fn by_file<'v>(
     Ok(groups)
 }
 
+/// Tells the violations of a file, at their places where its tree is there.
 fn tell_file(
     alloc: Global,
-    sources: &Sources<'_>,
-    path: &str,
+    tree: Option<&FileTree>,
+    origin: &str,
     violations: &[&Violation],
     level: RuleLevel,
     told: &mut Vec<Diagnostic>,
 ) -> Result<(), AllocError> {
-    let origin = sources.origin_of(path);
-    let tree = match sources.of_path(path) {
-        Some(source) => tree_of(alloc, source.text)?,
-        None => None,
-    };
     match tree {
-        Some(tree) => tell_tree(alloc, &tree, origin, violations, level, told),
+        Some(tree) => tell_tree(alloc, tree, origin, violations, level, told),
         None => {
             for violation in violations {
                 told.push(diagnostic_of(alloc, origin, None, violation, level)?)?;
