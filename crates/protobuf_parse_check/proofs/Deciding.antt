@@ -23,7 +23,7 @@ use Rattle.protobuf_parse_check.specs.Trimmed.{same_place}
 use Rattle.protobuf_parse_check.proofs.Orders.{kept-path, keeps-path}
 
 -- a name that occurs is among them
-occurs : (name : Text) (names : List Text) → 0 < occurrences name names
+pub occurs : (name : Text) (names : List Text) → 0 < occurrences name names
     → among name names ≡ true
 occurs name [] some = absurd (omega (arith, some))
 occurs name (x ∷ names) some = at (bytes_eq name x) refl (occurs name names) some

@@ -17,3 +17,12 @@ pub mod Finishing
 pub mod Ending
 pub mod Clashing
 pub mod Ordered
+pub mod Untrimmed
+pub mod Linked
+pub mod Settled
+pub mod Accepted
+pub mod ToldBefore
+pub mod ReadAlike
+pub mod Answering
+pub mod Agreeing
+pub mod FirstTold

@@ -3,3 +3,4 @@ pub mod Gathered
 pub mod Reports
 pub mod Judging
 pub mod SoFar
+pub mod Laws

@@ -7,9 +7,14 @@ mod cuts;
 mod imports;
 mod judge;
 mod judged;
+mod laws;
 mod repeats;
 mod report;
 mod verdict;
 
 pub use check::check_inputs;
+pub use laws::{
+    first_faults_are_told, quiet_answers_are_of_runs, quiet_checks_answer_as_runs,
+    quiet_checks_are_accepted_runs,
+};
 pub use report::{Check, CheckLog, FileReport, FileState, InputFault};

@@ -1,0 +1,40 @@
+use Rattle.std.proofs.Common.{◌≡◌, ◌-◌, ◌+◌, arith, suc}
+use Rattle.std.specs.Prelude.{string_bytes}
+use Rattle.protobuf_parse_syntax.specs.Trees.{file_syntax}
+use Rattle.protobuf_parse_recovery.proofs.Rounds.{has-tree, leads-last, leads-more, leads-none}
+use Rattle.protobuf_parse_recovery.proofs.Rounds.{leads-spent, masked-there, part-there}
+use Rattle.protobuf_parse_recovery.proofs.Rounds.{stands-there}
+use Rattle.protobuf_parse_recovery.proofs.faults.parse_faults.Goals as goal
+
+pub returns-in_default : goal.returns-in_default
+returns-in_default c =
+    leads-none _ _ _ _ c.loop-round.invariant
+    (has-tree _ _ _ (file_syntax c.in_default.field-0) c.as_str-now.ensures.value
+    c.in_default.ensures.found)
+
+pub returns-in_default-part_with : goal.returns-in_default-part_with
+returns-in_default-part_with c =
+    let left : 20 - c.loop-round.round ≡ suc (20 - (c.loop-round.round + 1)) = omega arith in
+    leads-last _ _ _ _ _ _ c.in-Err.error left c.loop-round.invariant
+    (stands-there _ _ c.in-Err.error c.as_str-now.ensures.value c.in-Err.ensures.refused
+    c.in_default-error.not-Memory) c.in_ok-push.ensures.items
+
+pub returns-in_default-2 : goal.returns-in_default-2
+returns-in_default-2 c =
+    let left : 20 - c.loop-round.round ≡ suc (20 - (c.loop-round.round + 1)) = omega arith in
+    leads-last _ _ _ _ _ _ c.in-Err.error left c.loop-round.invariant
+    (stands-there _ _ c.in-Err.error c.as_str-now.ensures.value c.in-Err.ensures.refused
+    c.in_default-error.not-Memory) c.in_ok-push.ensures.items
+
+pub loop-round-preserved : goal.loop-round-preserved
+loop-round-preserved c =
+    let left : 20 - c.loop-round.round ≡ suc (20 - (c.loop-round.round + 1)) = omega arith in
+    let blank = rw c.in-Some-2.is at c.in_ok-masked.ensures in
+    leads-more _ _ _ _ _ _ _ c.in-Err.error c.in-Some.part left c.loop-round.invariant
+    (stands-there _ _ c.in-Err.error c.as_str-now.ensures.value c.in-Err.ensures.refused
+    c.in_default-error.not-Memory)
+    (part-there _ _ c.in-Some.part c.as_str-now.ensures.value c.in-Some.ensures)
+    (masked-there _ _ _ c.in-Some.part c.as_str-now.ensures.value blank) c.in_ok-push.ensures.items
+
+pub returns : goal.returns
+returns c = leads-spent (20 - c.loop-round.round) _ _ _ (omega arith) c.loop-round.invariant

@@ -1,0 +1,3 @@
+pub mod Masking
+pub mod Recovery
+pub mod Laws
