@@ -22,6 +22,20 @@ TORN = [
     ("message B { optional group item = 1 {} }", 28, "S13"),
 ]
 
+# Options of a file, and of a field of a type, of which something is told: the code, and the text.
+FILE_OPTIONS = [
+    ("E11", 'java_pakage = "x"'),
+    ("E13", "deprecated = 5"),
+    ("E9", 'java_package = "\\q"'),
+    ("E12", 'uninterpreted_option = "x"'),
+]
+FIELD_OPTIONS = [
+    ("int32", ("E13", "deprecated = 5")),
+    ("int32", ("E10", "json_name = 5")),
+    ("string", ("E8", "default = 5")),
+    ("string", ("E11", "defalt = 5")),
+]
+
 
 # ---- texts, and what stands where in them
 
@@ -139,6 +153,17 @@ class Outline:
             self.declare("extension", scope, place, name)
             self.extensions.append((place, f"{scope}.{name}", extendee, type_))
         self.writer.put(" }")
+
+    def put_service(self, scope, name, methods):
+        place = self.writer.put(f"service {name} {{")
+        self.declare("service", scope, place, name)
+        with self.body():
+            for method, given, back in methods:
+                self.writer.put("\n  ")
+                place = self.writer.put(f"rpc {method} ({given}) returns (stream {back});")
+                self.declare("method", scope, place, method)
+                for type_ in dict.fromkeys([given, back]):
+                    self.use(place, f"{scope}.{name}", type_)
 
     def put_range(self, scope):
         self.plain.append((self.writer.put("reserved 7 to 2147483647;"), "E7"))
@@ -275,11 +300,11 @@ class Maker:
         self.case.files[path] = source
         statements = self.imports(paths, i)
         near = [path, *(it for _, _, it in statements)]
-        for kind in self.rng.choices(["message", "enum", "extend"], [5, 1, 2], k=self.few(5)):
+        kinds = ["message", "enum", "extend", "service"]
+        for kind in self.rng.choices(kinds, [6, 1, 2, 1], k=self.few(6)):
             statements.append(getattr(self, f"a_{kind}")(path, package, near))
         if self.hits("plain"):
-            statements.append(("option", *self.rng.choice(
-                [("E11", 'java_pakage = "x"'), ("E13", "deprecated = 5")])))  # fmt: skip
+            statements.append(("option", *self.rng.choice(FILE_OPTIONS)))
         if self.rng.random() < 0.3:
             self.rng.shuffle(statements)
         source.statements = statements
@@ -354,8 +379,8 @@ class Maker:
         if draw < 0.2:
             return self.an_extend(package, near)
         if self.hits("plain"):
-            return ("range",) if draw < 0.6 else (
-                "field", "int32", field, number, ("E13", "deprecated = 5"))  # fmt: skip
+            type_, option = self.rng.choice(FIELD_OPTIONS)
+            return ("range",) if draw < 0.4 else ("field", type_, field, number, option)
         if draw < 0.5 and (self.rates["custom"] or depth):
             return self.custom()
         return ("field", self.type_from(package, near), field, number, None)
@@ -391,6 +416,17 @@ class Maker:
         if self.hits("again"):
             values.append(values[0])
         return ("enum", name, values)
+
+    def a_service(self, path, package, near):
+        name = "Shop" if self.hits("again") else f"S{len(self.names[path])}of{len(self.names)}"
+        methods = []
+        for i in range(self.few(4)):
+            types = [self.type_from(package, near) for _ in range(2)]
+            types = [".Nowhere" if it in ("int32", "string") else it for it in types]
+            methods.append(("Get" if self.hits("again") else f"Get{i}", *types))
+        if not self.hits("far"):
+            methods = [it for it in methods if ".Nowhere" not in it]
+        return ("service", name, methods)
 
     # -- FILEs
 
