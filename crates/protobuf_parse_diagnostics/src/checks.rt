@@ -107,7 +107,7 @@ fn tell_asked<W: Reasons>(
     path: &str,
     why: &Unfollowed,
 ) -> Result<(), AllocError>
-    ensures { OnOk result (Tells (why_lines given.now.unread.now (importer_place importer) why.now)
+    ensures { OnOk result (Tells (why_lines given.now.unread.now (importer_place importer.entry) why.now)
         told.old.items told.new.items) }
 {
     match why {
@@ -149,7 +149,7 @@ fn tell_missing<W: Reasons>(
     importer: Option<Importer<'_>>,
     number: usize,
 ) -> Result<(), AllocError>
-    ensures { OnOk result (Tells (missing_lines (importer_place importer)
+    ensures { OnOk result (Tells (missing_lines (importer_place importer.entry)
         (slice_get given.now.unread.now number)) told.old.items told.new.items) }
 {
     let Some(file) = given.unread.get(number) else {
@@ -251,7 +251,7 @@ fn cycle_diagnostic(
 ) -> Result<Diagnostic, AllocError>
     ensures { IfOk result (IsTold (record {
       code = codes "L7";
-      place = importer_place importer;
+      place = importer_place importer.entry;
     })) }
 {
     let mut message = String::from_str(alloc, "the file imports itself: ")?;
@@ -273,7 +273,7 @@ fn long_diagnostic(
 ) -> Result<Diagnostic, AllocError>
     ensures { IfOk result (IsTold (record {
       code = codes "L8";
-      place = importer_place importer;
+      place = importer_place importer.entry;
     })) }
 {
     let message = format!(in alloc;
@@ -292,7 +292,7 @@ fn told_at_importer(
 ) -> Result<Diagnostic, AllocError>
     ensures { IfOk result (IsTold (record {
       code = code.now;
-      place = importer_place importer;
+      place = importer_place importer.entry;
     })) }
 {
     let sentence = Sentence::new(message);

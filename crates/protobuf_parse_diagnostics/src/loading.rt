@@ -62,7 +62,7 @@ pub fn asked_diagnostic(
 ) -> Result<Diagnostic, AllocError>
     ensures code { IfOk result (IsOfCode (run_code_of fault.now)) }
     ensures place { is_told_where_asked fault.now ≡ true
-        → IfOk result (IsAt (importer_place importer)) }
+        → IfOk result (IsAt (importer_place importer.entry)) }
 {
     match fault {
         RunFault::FileNotFoundInImportPath(path, text) => not_found(alloc, importer, path, text),
@@ -150,7 +150,7 @@ fn not_found(
     includes: &str,
 ) -> Result<Diagnostic, AllocError>
     ensures code { IfOk result (IsOfCode (codes "L2")) }
-    ensures place { IfOk result (IsAt (importer_place importer)) }
+    ensures place { IfOk result (IsAt (importer_place importer.entry)) }
 {
     let help = if includes.is_empty() {
         None
@@ -185,7 +185,7 @@ fn unresolved(
     why: &ResolveFault,
 ) -> Result<Diagnostic, AllocError>
     ensures code { IfOk result (IsOfCode (codes "L5")) }
-    ensures place { IfOk result (IsAt (importer_place importer)) }
+    ensures place { IfOk result (IsAt (importer_place importer.entry)) }
 {
     match importer {
         Some(Importer { origin, place }) => {

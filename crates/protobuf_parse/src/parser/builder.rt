@@ -20,7 +20,7 @@ ghost use Rattle.protobuf_parse.specs.Parsers.{is_name_among, is_of_input};
 use crate::parser::files::{FsReader, copy_texts, fs_resolver};
 use crate::parser::includes::proto_paths_of;
 use protobuf_parse_base::proto_path::ProtoPathBuf;
-use protobuf_parse_check::{Check, check_inputs};
+use protobuf_parse_check::{Check, CheckLog, check_inputs};
 use protobuf_parse_google::google_files;
 use protobuf_parse_model::{FileDescriptorProto, FileDescriptorSet};
 use protobuf_parse_run::{RunFault, RunInput, bundled_files, run_inputs};
@@ -320,8 +320,14 @@ impl Parser {
         let resolver = fs_resolver(rt, alloc, &folders)?;
         let reader = FsReader::new(rt);
         let given = place_inputs(alloc, &self.inputs, names)?;
-        let log = check_inputs(alloc, &given, &resolver, &reader, self.bundled());
-        match log.result {
+        let CheckLog { reads: _, result } = check_inputs(
+            alloc,
+            &given,
+            &resolver,
+            &reader,
+            self.bundled(),
+        );
+        match result {
             Ok(check) => Ok(check),
             Err(_) => Err(RunFault::Memory),
         }
