@@ -16,14 +16,14 @@ pub struct Importer<'a> {
 /// The trees of files, and by each proto path the first statement that imports it, in the order of
 /// the files.
 #[derive(Drop)]
-pub struct Importers<'t, 'a> {
-    pub trees: &'t Trees<'a>,
+pub struct Importers<'s, 't, 'a> {
+    pub trees: &'s Trees<'t, 'a>,
     firsts: BTreeMap<&'t str, Importer<'a>>,
 }
 
-impl<'t, 'a> Importers<'t, 'a> {
+impl<'s, 't, 'a> Importers<'s, 't, 'a> {
     /// Those of these files. The one error is that memory is short.
-    pub fn of(alloc: Global, trees: &'t Trees<'a>) -> Result<Self, AllocError> {
+    pub fn of(alloc: Global, trees: &'s Trees<'t, 'a>) -> Result<Self, AllocError> {
         let mut firsts = BTreeMap::new(alloc);
         for file in &trees.files {
             let origin = file.source.origin;
@@ -46,7 +46,7 @@ impl<'t, 'a> Importers<'t, 'a> {
 /// Where the file of the first proto path imports the second one.
 pub fn import_place(
     alloc: Global,
-    trees: &Trees<'_>,
+    trees: &Trees<'_, '_>,
     from: &str,
     path: &str,
 ) -> Result<Option<Place>, AllocError> {
@@ -65,7 +65,7 @@ pub fn import_place(
 /// on, itself counted.
 pub fn long_import(
     alloc: Global,
-    trees: &Trees<'_>,
+    trees: &Trees<'_, '_>,
     path: &str,
     files: usize,
 ) -> Result<Option<Place>, AllocError> {
@@ -85,7 +85,11 @@ pub fn long_import(
 
 /// Of each file, whether a chain of that many files begins with it, two or more. The last one need
 /// not have been read.
-fn begin_chains(alloc: Global, trees: &Trees<'_>, files: usize) -> Result<Vec<bool>, AllocError> {
+fn begin_chains(
+    alloc: Global,
+    trees: &Trees<'_, '_>,
+    files: usize,
+) -> Result<Vec<bool>, AllocError> {
     let mut nexts: Vec<Vec<usize>> = Vec::new(alloc);
     let mut long: Vec<bool> = Vec::new(alloc);
     for file in &trees.files {
@@ -133,20 +137,24 @@ enum Followed {
 /// The positions of the files that the file at this position reaches, its own too.
 pub fn reached(
     alloc: Global,
-    trees: &Trees<'_>,
+    trees: &Trees<'_, '_>,
     from: usize,
 ) -> Result<BTreeSet<usize>, AllocError> {
     positions_by(alloc, trees, from, Followed::All)
 }
 
 /// The positions of the files that the file at this position sees, its own too.
-pub fn seen(alloc: Global, trees: &Trees<'_>, from: usize) -> Result<BTreeSet<usize>, AllocError> {
+pub fn seen(
+    alloc: Global,
+    trees: &Trees<'_, '_>,
+    from: usize,
+) -> Result<BTreeSet<usize>, AllocError> {
     positions_by(alloc, trees, from, Followed::Public)
 }
 
 fn positions_by(
     alloc: Global,
-    trees: &Trees<'_>,
+    trees: &Trees<'_, '_>,
     from: usize,
     which: Followed,
 ) -> Result<BTreeSet<usize>, AllocError> {
@@ -167,7 +175,7 @@ struct Step {
 /// Meets each file once, those nearer to the first one first.
 fn walk_from(
     alloc: Global,
-    trees: &Trees<'_>,
+    trees: &Trees<'_, '_>,
     from: usize,
     which: Followed,
 ) -> Result<Vec<Step>, AllocError> {
@@ -209,7 +217,7 @@ fn meet(
 /// of this path to itself. Empty where there is none.
 pub fn cycle_at<'a>(
     alloc: Global,
-    trees: &Trees<'a>,
+    trees: &Trees<'_, 'a>,
     path: &str,
 ) -> Result<Vec<&'a str>, AllocError> {
     let Some(from) = trees.position(path) else {
@@ -230,7 +238,7 @@ pub fn cycle_at<'a>(
 /// The paths from the first step to that one, and the first one again.
 fn chain_to<'a>(
     alloc: Global,
-    trees: &Trees<'a>,
+    trees: &Trees<'_, 'a>,
     steps: &[Step],
     last: usize,
 ) -> Result<Vec<&'a str>, AllocError> {
@@ -250,7 +258,7 @@ fn chain_to<'a>(
 
 fn push_path<'a>(
     chain: &mut Vec<&'a str>,
-    trees: &Trees<'a>,
+    trees: &Trees<'_, 'a>,
     steps: &[Step],
     at: usize,
 ) -> Result<(), AllocError> {

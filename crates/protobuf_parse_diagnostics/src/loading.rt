@@ -39,7 +39,7 @@ pub fn run_code(fault: &RunFault) -> &'static str
 pub fn loading_diagnostic(
     alloc: Global,
     sources: &Sources<'_>,
-    importers: &Importers<'_, '_>,
+    importers: &Importers<'_, '_, '_>,
     fault: &RunFault,
 ) -> Result<Diagnostic, AllocError> {
     match fault {
@@ -203,7 +203,7 @@ fn unresolved(
 fn too_long(
     alloc: Global,
     sources: &Sources<'_>,
-    trees: &Trees<'_>,
+    trees: &Trees<'_, '_>,
     path: &str,
 ) -> Result<Diagnostic, AllocError> {
     let place = long_import(alloc, trees, path, 100)?;
@@ -229,7 +229,7 @@ fn shadowed(alloc: Global, path: &str) -> Result<Sentence, AllocError> {
 fn cycle(
     alloc: Global,
     sources: &Sources<'_>,
-    trees: &Trees<'_>,
+    trees: &Trees<'_, '_>,
     path: &str,
 ) -> Result<Diagnostic, AllocError> {
     let chain = cycle_at(alloc, trees, path)?;

@@ -150,7 +150,7 @@ fn has_faults(report: &FileReport) -> bool {
 /// The file of the report, if something is told in it.
 fn subject_of<'s, 'k, 't, 'a>(
     alloc: Global,
-    trees: &'s Trees<'a>,
+    trees: &Trees<'_, 'a>,
     known: &'s Known<'k, 't, 'a>,
     report: &FileReport,
 ) -> Result<Option<Subject<'s, 'k, 't, 'a>>, AllocError> {
@@ -164,7 +164,7 @@ fn subject_of<'s, 'k, 't, 'a>(
 /// The file at that position, if there is one.
 fn subject_at<'s, 'k, 't, 'a>(
     alloc: Global,
-    trees: &'s Trees<'a>,
+    trees: &Trees<'_, 'a>,
     known: &'s Known<'k, 't, 'a>,
     at: Option<usize>,
 ) -> Result<Option<Subject<'s, 'k, 't, 'a>>, AllocError> {
@@ -203,7 +203,7 @@ impl<'s, 'k, 't, 'a> Subject<'s, 'k, 't, 'a> {
     /// The file at this position, if there is one.
     fn of(
         alloc: Global,
-        trees: &'s Trees<'a>,
+        trees: &Trees<'_, 'a>,
         known: &'s Known<'k, 't, 'a>,
         at: usize,
     ) -> Result<Option<Self>, AllocError> {

@@ -155,25 +155,25 @@ pub fn parsed_texts(
 
 /// A file with its tree.
 #[derive(Clone, Copy)]
-pub struct Parsed<'a> {
+pub struct Parsed<'t, 'a> {
     pub source: Source<'a>,
-    pub tree: &'a FileTree,
+    pub tree: &'t FileTree,
 }
 
 /// Files that have a tree.
 #[derive(Drop)]
-pub struct Trees<'a> {
-    pub files: Vec<Parsed<'a>>,
+pub struct Trees<'t, 'a> {
+    pub files: Vec<Parsed<'t, 'a>>,
     by_path: BTreeMap<&'a str, usize>,
 }
 
-impl<'a> Trees<'a> {
+impl<'t, 'a> Trees<'t, 'a> {
     /// Those of these files that have a tree, in their order: `parsed` has one for each. The one
     /// error is that memory is short.
     pub fn of_texts(
         alloc: Global,
         sources: &Sources<'a>,
-        parsed: &'a [Option<FileTree>],
+        parsed: &'t [Option<FileTree>],
     ) -> Result<Self, AllocError> {
         let mut trees = Trees::none(alloc);
         for (source, tree) in sources.files.iter().zip(parsed) {
@@ -189,7 +189,7 @@ impl<'a> Trees<'a> {
     pub fn of_reports(
         alloc: Global,
         sources: &Sources<'a>,
-        reports: &'a [FileReport],
+        reports: &'t [FileReport],
     ) -> Result<Self, AllocError> {
         let mut trees = Trees::none(alloc);
         for report in reports {
@@ -207,7 +207,7 @@ impl<'a> Trees<'a> {
         }
     }
 
-    fn add(&mut self, source: Source<'a>, tree: &'a FileTree) -> Result<(), AllocError> {
+    fn add(&mut self, source: Source<'a>, tree: &'t FileTree) -> Result<(), AllocError> {
         self.by_path.insert(source.path, self.files.len())?;
         self.files.push(Parsed { source, tree })?;
         Ok(())
@@ -219,7 +219,7 @@ impl<'a> Trees<'a> {
     }
 
     /// The file of this proto path.
-    pub fn of_path(&self, path: &str) -> Option<Parsed<'a>> {
+    pub fn of_path(&self, path: &str) -> Option<Parsed<'t, 'a>> {
         self.files.get(self.position(path)?).copied()
     }
 

@@ -16,7 +16,7 @@ pub struct KnownFile<'t, 'a> {
 /// The files of these trees, in their order. The one error is that memory is short.
 pub fn known_files<'t, 'a>(
     alloc: Global,
-    trees: &'t Trees<'a>,
+    trees: &Trees<'t, 'a>,
 ) -> Result<Vec<KnownFile<'t, 'a>>, AllocError> {
     let mut files = Vec::new(alloc);
     for file in &trees.files {
@@ -82,7 +82,7 @@ impl<'s, 'k, 't, 'a> Sight<'s, 'k, 't, 'a> {
     /// The files as the one at this position sees them. The one error is that memory is short.
     pub fn of(
         alloc: Global,
-        trees: &Trees<'a>,
+        trees: &Trees<'_, 'a>,
         known: &'s Known<'k, 't, 'a>,
         at: usize,
     ) -> Result<Self, AllocError> {
