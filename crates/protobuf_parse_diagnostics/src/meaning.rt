@@ -104,7 +104,7 @@ pub fn tell_reports(
     let mut hints = Hints::new(alloc);
     for report in reports {
         let subject = subject_of(alloc, &trees, &known, report)?;
-        let origin = sources.origin_of(&report.path);
+        let origin = (&*sources).origin_of(&report.path);
         tell_errors(alloc, told, origin, &subject, &mut hints, &report.repeats)?;
         tell_errors(alloc, told, origin, &subject, &mut hints, &report.faults)?;
     }
