@@ -9,15 +9,6 @@ left_none f [] (suc i) h = refl
 left_none f (y ∷ ys) zero h = absurd (omega arith)
 left_none f (y ∷ ys) (suc i) h = left_none f ys i (omega arith)
 
-pub left_byte : (xs : List ℕ) (i : ℕ) (d : ℕ) → i < length xs
-    → drop i xs ≡ get_or xs i d ∷ drop (i + 1) xs
-left_byte [] i d h = absurd (omega arith)
-left_byte (y ∷ ys) zero d h = refl
-left_byte (y ∷ ys) (suc i) d h =
-    let k : suc i + 1 ≡ suc (i + 1) = omega arith in
-    left_byte ys i d (omega arith)
-    ∙ ap (λ (n : ℕ). get_or ys i d ∷ drop n (y ∷ ys)) (sym k)
-
 pub left_end : (xs : List ℕ) (i : ℕ) → length xs ≤ i → drop i xs ≡ []
 left_end [] zero h = refl
 left_end [] (suc i) h = refl
