@@ -96,10 +96,6 @@ and_parts : (a b : Bool) → (a && b) ≡ true → (a ≡ true) × (b ≡ true)
 and_parts true b h = (refl, h)
 and_parts false b h = cc
 
-and_both : (a b : Bool) → a ≡ true → b ≡ true → (a && b) ≡ true
-and_both true b h k = k
-and_both false b h k = cc
-
 and_other : (a b : Bool) → a ≡ true → (a && b) ≡ false → b ≡ false
 and_other true b h k = k
 and_other false b h k = cc

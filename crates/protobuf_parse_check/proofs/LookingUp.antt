@@ -1,14 +1,16 @@
 -- What a file becomes, whether its custom options are looked at or not.
 use Rattle.std.proofs.Common.{◌≡◌, ◌∙◌, ◌⊎◌, ℕ, Bool, true, false, not, ◌&&◌, List, [], ◌∷◌, ap, inl}
-use Rattle.std.proofs.Common.{inr}
+use Rattle.std.proofs.Common.{arith, inr, length, map}
 use Rattle.std.proofs.Common.{refl, sym, if◌then◌else◌}
 use Rattle.std.specs.Global.{Vec}
-use Rattle.std.specs.Prelude.{IfOk, OnOk, Result, Ok, Err}
+use Rattle.std.specs.Bool.{◌==◌}
+use Rattle.std.specs.Prelude.{IfOk, OnOk, Result, Ok, Err, vec_len}
 use Rattle.std.specs.List.{list_any}
+use Rattle.std.proofs.lemmas.Bool.{eqb-true}
 use Rattle.protobuf_parse_syntax.specs.Trees.{FileSyntax}
 use Rattle.protobuf_parse_model.specs.Descriptors as described
 use Rattle.protobuf_parse_model.specs.Descriptors.{FileDescriptor, Text}
-use Rattle.protobuf_parse_model.specs.Faults.{Fault, found}
+use Rattle.protobuf_parse_model.specs.Faults.{Fault, fault_view, found}
 use Rattle.protobuf_parse_model.specs.Tables.{picked}
 use Rattle.protobuf_parse_model.specs.declared.descriptor.FileDescriptorProto.{FileDescriptorProto}
 use Rattle.protobuf_parse_model.specs.declared.error.ElabError.{ElabError}
@@ -42,6 +44,20 @@ not_true false h = refl
 nothing-of : (fs : List Fault) → is_nothing fs ≡ true → fs ≡ []
 nothing-of [] h = refl
 nothing-of (f ∷ fs) h = cc
+
+-- no fault is found where there is none
+pub nothing-is : (faults : Vec ElabError) (fs : List Fault) → found faults ≡ fs
+    → (vec_len faults == 0) ≡ is_nothing fs
+nothing-is faults fs is =
+    ap (λ (n : ℕ). n == 0) faults.ok.0 ∙ none faults.items ∙ ap is_nothing is
+  where
+    none : (es : List ElabError) → (length es == 0) ≡ is_nothing (map fault_view es)
+    none [] = refl
+    none (e ∷ es) = some (length (e ∷ es) == 0) refl
+      where
+        some : (b : Bool) → (length (e ∷ es) == 0) ≡ b → b ≡ false
+        some true is = let no = eqb-true (length (e ∷ es)) 0 is in absurd (omega (arith, no))
+        some false is = refl
 
 module _ (loaded : List LoadedEntry) (files : List FileSyntax) (reach sight : List ℕ)
     (looks_up : Bool) (path : Text) (t : FileSyntax) where

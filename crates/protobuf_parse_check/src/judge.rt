@@ -118,8 +118,6 @@ pub fn judge_file(
         handed_on,
         read,
         descriptor,
-        faults: Vec::new(alloc),
-        faulty: false,
     };
     judge.loaded.add(path, entry)?;
     judge.verdicts.push(verdict)?;

@@ -11,7 +11,7 @@ use Rattle.std.specs.List.{list_any}
 use Rattle.protobuf_parse_syntax.specs.Dependencies.{imports}
 use Rattle.protobuf_parse_syntax.specs.Trees.{FileSyntax, ImportSyntax}
 use Rattle.protobuf_parse_model.specs.Descriptors.{Text}
-use Rattle.protobuf_parse_run.specs.Run.{ends as stops}
+use Rattle.protobuf_parse_run.specs.Run.{fails}
 use Rattle.protobuf_parse_run.specs.Walks.{Asked, Event, FileRead, Input, Trees, among, asked_of}
 use Rattle.protobuf_parse_run.specs.Walks.{at}
 use Rattle.protobuf_parse_run.specs.Walks.{check, checks, cycle, elab, events, events_after}
@@ -757,8 +757,8 @@ module _ (trees : Trees) (inputs : List Input) (ends : Event → Bool)
       ]
 
 pub run-is-front : RunIsFront
-run-is-front gathers files inputs =
-    front-is files.trees inputs (stops gathers files) (λ p. refl) (λ i. refl) (λ a p. refl)
+run-is-front files inputs =
+    front-is files.trees inputs (fails files) (λ p. refl) (λ i. refl) (λ a p. refl)
 
 -- what ends a run of which nothing is known but trees
 abbrev pub tells_alone : Trees → Event → Bool

@@ -50,9 +50,6 @@ use Rattle.protobuf_parse_load.proofs.Standing.{unread-new}
 pub max-zero : (k : ℕ) → max 0 k ≡ k
 max-zero k = omega arith
 
-pub max-right : (k : ℕ) → max k 0 ≡ k
-max-right k = omega arith
-
 -- memory ran out with the reads that there were, or with one more
 pub cut-now : (legal : Legal) (files : ReadFiles) (a b : At) (l : Loader) (log : List ReadEntry)
     → StandsAt legal files a l → log ≡ l.reads.items → Extends a.reads b → IsCutOff legal b log
@@ -74,10 +71,6 @@ cut-later legal a b log cut more = record {
 
 pub grows-same : (old new : List ReadEntry) → new ≡ old → Grows old new
 grows-same old new same = ([], same ∙ sym (append-nil old))
-
-pub steps-at : (legal : Legal) (files : ReadFiles) (a : At) (l : Loader) (p : Text)
-    → StandsAt legal files a l → known p a.steps ≡ known p (steps_view l.steps.list)
-steps-at legal files a l p stands = ap (known p) (sym stands.steps_are)
 
 -- a read by its number, and the reads before it
 pub opens-moved : (request : Request) (n m : ℕ) (tree : FileTree) (old new : Loader)

@@ -13,7 +13,7 @@ use Rattle.protobuf_parse_run.specs.Walks.{until}
 use Rattle.protobuf_parse_run.proofs.Keeping.{bool_cases}
 use Rattle.protobuf_parse_run.proofs.Keeping.{false_true}
 use Rattle.protobuf_parse_run.proofs.Keeping.{find-none}
-use Rattle.protobuf_parse_run.proofs.Keeping.{never_both, none_some, or_left}
+use Rattle.protobuf_parse_run.proofs.Keeping.{none_some}
 use Rattle.protobuf_parse_load.specs.declared.known.Known.{Known}
 use Rattle.protobuf_parse_load.specs.declared.known.Known.TheVariants.{Unreadable, Loaded}
 use Rattle.protobuf_parse_load.specs.Laws.{is_told}
@@ -40,11 +40,6 @@ pub find-push : (test : Event → Bool) (xs : List Event) (x : Event) → find t
     → test x ≡ false → find test (xs ++ x ∷ []) ≡ None
 find-push test xs x h e = find-none test xs (x ∷ []) h (rw e refl)
 
-pub until-none : (test : Event → Bool) (xs : List Event) → find test xs ≡ None → until test xs ≡ xs
-until-none test [] h = refl
-until-none test (x ∷ xs) h =
-    let k = find-head test x xs h in rw k.0 (ap (λ z. x ∷ z) (until-none test xs k.1))
-
 pub until-first : (test : Event → Bool) (xs : List Event) (x : Event) (more : List Event)
     → find test xs ≡ None → test x ≡ true → until test ((xs ++ x ∷ []) ++ more) ≡ xs ++ x ∷ []
 until-first test [] x more h e = rw e refl
@@ -52,14 +47,6 @@ until-first test (y ∷ xs) x more h e =
     let k = find-head test y xs h in rw k.0 (ap (λ z. y ∷ z) (until-first test xs x more k.1 e))
 
 -- ** steps that tell nothing
-
-pub any-head : (f : Step → Bool) (x : Step) (xs : List Step) → list_any f (x ∷ xs) ≡ false
-    → (f x ≡ false) × (list_any f xs ≡ false)
-any-head f x xs h =
-    elim (bool_cases (f x)) [
-      | inl w ↦ absurd (never_both (list_any f (x ∷ xs)) (or_left (f x) (list_any f xs) w) h)
-      | inr w ↦ (w, (rw w at h))
-    ]
 
 pub any-push : (f : Step → Bool) (xs : List Step) (x : Step) → list_any f xs ≡ false → f x ≡ false
     → list_any f (xs ++ x ∷ []) ≡ false

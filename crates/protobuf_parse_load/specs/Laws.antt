@@ -8,7 +8,7 @@ use Rattle.protobuf_parse_syntax.specs.Dependencies.{imports}
 use Rattle.protobuf_parse_syntax.specs.Trees.{FileSyntax, ImportSyntax}
 use Rattle.protobuf_parse_model.specs.Descriptors.{Text}
 use Rattle.protobuf_parse_elaboration.specs.FilesByPath.{AreDistinct}
-use Rattle.protobuf_parse_run.specs.Run.{Files, ends, resolved_in}
+use Rattle.protobuf_parse_run.specs.Run.{Files, fails, resolved_in}
 use Rattle.protobuf_parse_run.specs.Walks.{Asked, Event, FileRead, Input, Trees, among, asked_of}
 use Rattle.protobuf_parse_run.specs.Walks.{at}
 use Rattle.protobuf_parse_run.specs.Walks.{check, cycle, elab, events, input_name, load, long}
@@ -128,12 +128,11 @@ event_of inputs (held n p r) = check r (own_at (slice_get inputs n)) p
 abbrev pub load_events : Trees → List Input → List Event
 load_events trees inputs = map (event_of inputs) (load_steps trees inputs)
 
--- Up to the first that ends it, the events of a run are those of the load; likewise those of a
--- check.
+-- Up to the first that ends it, the events of a run are those of the load.
 abbrev pub RunIsFront : Type 0
-RunIsFront = (gathers : Bool) (files : Files) (inputs : List Input)
-    → until (ends gathers files) (events files.trees inputs)
-    ≡ until (ends gathers files) (load_events files.trees inputs)
+RunIsFront = (files : Files) (inputs : List Input)
+    → until (fails files) (events files.trees inputs)
+    ≡ until (fails files) (load_events files.trees inputs)
 
 -- Where nothing is told, the events of a run are those of the load.
 abbrev pub LoadIsRun : Type 0

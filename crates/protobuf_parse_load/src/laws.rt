@@ -21,7 +21,7 @@ pub fn held_inputs_are_read()
 {}
 
 /// A run is the front of a load: up to the first that ends it, its events are those of the load's
-/// steps, and so are those of a check (`front`). Where a load tells nothing, all are (`whole`).
+/// steps (`front`). Where a load tells nothing, all are (`whole`).
 pub fn runs_are_fronts_of_loads()
     ensures front { RunIsFront }
     ensures whole { LoadIsRun }

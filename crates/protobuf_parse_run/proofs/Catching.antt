@@ -1,12 +1,15 @@
 -- The index of spots, as it is caught up with the loaded files.
 use Rattle.std.proofs.Common.{◌≡◌, ℕ, ◌+◌, ◌≤◌, List, [], ◌∷◌, ◌++◌, map, length, Option}
 use Rattle.std.proofs.Common.{option_map, Some, refl, sym, ap, ◌∙◌, arith, append-nil, append_assoc}
-use Rattle.std.proofs.Common.{subst, slice_get, length-append, flat_map}
+use Rattle.std.proofs.Common.{subst, slice_get, length-append, flat_map, Result, Ok, Err}
 use Rattle.std.specs.Borrow.{Bor}
-use Rattle.std.specs.Prelude.{option_to_list}
+use Rattle.std.specs.Prelude.{IfOk, option_to_list}
 use Rattle.std.proofs.lemmas.List.{length-map, map-append}
+use Rattle.protobuf_parse_model.specs.Descriptors as described
 use Rattle.protobuf_parse_model.specs.Descriptors.{FileDescriptor}
+use Rattle.protobuf_parse_model.specs.Faults.{Elaborates, Fault}
 use Rattle.protobuf_parse_model.specs.declared.descriptor.FileDescriptorProto.{FileDescriptorProto}
+use Rattle.protobuf_parse_model.specs.declared.error.ElabFailure.{ElabFailure}
 use Rattle.protobuf_parse_options.specs.Holding.{Holds}
 use Rattle.protobuf_parse_options.specs.WithoutOptions.{bare_file, DifferOnlyInOptions}
 use Rattle.protobuf_parse_options.proofs.BareSpots.{holds-alike}
@@ -36,6 +39,14 @@ begins-more spots descriptors d b = record {
   split = ap (λ ps. ps ++ d ∷ []) b.split ∙ append_assoc b.front b.rest (d ∷ []);
   whole = b.whole;
 }
+
+-- whatever file comes next, if one does
+pub begins-if : (spots : RunSpots) (loaded : List LoadedEntry)
+    (r : Result FileDescriptorProto ElabFailure) → IndexBegins spots (map descriptor_in loaded)
+    → IfOk r (λ d. IndexBegins spots (descriptors_with loaded (described.file_view d)))
+begins-if spots loaded (Ok d) b =
+    begins-more spots (map descriptor_in loaded) (described.file_view d) b
+begins-if spots loaded (Err e) b = tt
 
 at-end : {A : Type 0} (front rest : List A) → slice_get (front ++ rest) (length front)
     ≡ slice_get rest 0
@@ -121,6 +132,19 @@ whole-alike spots ds es same whole = record {
   count = sym (length-map es bare_file) ∙ ap length (sym same) ∙ length-map ds bare_file
       ∙ whole.count;
 }
+
+-- so has one with a file that becomes the same but for options
+pub whole-if : (spots : RunSpots) (loaded : List LoadedEntry) (plain value : FileDescriptor)
+    (faults : List Fault) (r : Result FileDescriptorProto ElabFailure)
+    → bare_file plain ≡ bare_file value → IsWhole spots (descriptors_with loaded plain)
+    → Elaborates described.file_view r faults value
+    → IfOk r (λ d. IndexBegins spots (descriptors_with loaded (described.file_view d)))
+whole-if spots loaded plain value faults (Ok d) alike whole h =
+    let is = described.file_view d in
+    whole-begins spots (descriptors_with loaded is)
+    (whole-alike spots (descriptors_with loaded plain) (descriptors_with loaded is)
+    (next-alike loaded plain is (alike ∙ ap bare_file (sym h.1))) whole)
+whole-if spots loaded plain value faults (Err e) alike whole h = tt
 
 pub picked-seen : (descriptors : List FileDescriptor) (ns : List ℕ)
     → flat_map option_to_list (map (slice_get descriptors) ns) ≡ picked_descriptors descriptors ns

@@ -1,5 +1,4 @@
 -- An input at a path of its own, held against what was loaded for its name.
-use Rattle.protobuf_parse_run.specs.Run.{ends}
 use Rattle.std.proofs.Common.{◌≡◌, ℕ, zero, suc, Bool, true, false, not, ◌||◌, inl, inr, List, []}
 use Rattle.std.proofs.Common.{◌∷◌, ◌++◌, Option, Some, Result, Ok, Err, refl, sym, ◌∙◌, ap, subst}
 use Rattle.std.proofs.Common.{append-nil, length, arith}
@@ -13,6 +12,7 @@ use Rattle.protobuf_parse_run.specs.declared.log.ReadEntry.{ReadEntry}
 use Rattle.protobuf_parse_run.specs.declared.log.ReadOutcome.{ReadOutcome}
 use Rattle.protobuf_parse_run.specs.Walks.{the_resolver, the_reader, Event, load, check, elab, has}
 use Rattle.protobuf_parse_run.specs.Walks.{among, at, checks, FileRead, reads_in}
+use Rattle.protobuf_parse_run.specs.Run.{fails}
 use Rattle.protobuf_parse_run.specs.Run.{Files, AreAnswered, StandsInCheck, answer_at, Legal}
 use Rattle.protobuf_parse_run.specs.Run.{are_same_bytes, first_read, text_for, text_given}
 use Rattle.protobuf_parse_run.specs.Loading.{LoadedEntry, file_at, read_paths, Goes, GoesOn, Good}
@@ -50,17 +50,17 @@ abbrev pub Told : List (Text × Text) → List ReadEntry → ℕ → Option Text
 Told table log n text = (e : ReadEntry) → slice_get log n ≡ Some e
     → text ≡ text_given table (path_buf_text e.path) (Some e.outcome)
 
-module _ (gathers : Bool) (legal : Legal) (files : Files) (table : List (Text × Text))
+module _ (legal : Legal) (files : Files) (table : List (Text × Text))
     (kept : List Event)
     (loaded : List LoadedEntry) (log : List ReadEntry) (p q own : Text) (x : LoadedFile)
     (is : q ≡ p)
-    (g : Good gathers legal files kept loaded log []) (found : file_at q loaded ≡ Some x) where
+    (g : Good legal files kept loaded log []) (found : file_at q loaded ≡ Some x) where
   at_p : file_at p loaded ≡ Some x
   at_p = subst (λ (z : Text). file_at z loaded ≡ Some x) is found
 
   was_loaded : has (load the_resolver p) kept ≡ true
   was_loaded =
-      let l = loaded-at gathers legal files p x log loaded at_p g.made in
+      let l = loaded-at legal files p x log loaded at_p g.made in
       g.read p
       (subst (λ (z : Text). among z (read_paths log) ≡ true) l.named
       (among-at log x.read l.entry l.read))
@@ -69,7 +69,7 @@ module _ (gathers : Bool) (legal : Legal) (files : Files) (table : List (Text ×
   checks-are = rw (was_loaded, answers-length legal (reads_in kept) log g.answers) refl
 
   pub check-breaks : (f : RunFault) → f ≡ fault.Memory
-      → Stops gathers legal files (kept ++ checks kept (at p own)) log f
+      → Stops legal files (kept ++ checks kept (at p own)) log f
   check-breaks f m =
       inr (record {
         memory = m;
@@ -96,14 +96,14 @@ module _ (gathers : Bool) (legal : Legal) (files : Files) (table : List (Text ×
 
     texts-are : text_for files p ≡ text
     texts-are =
-        let l = loaded-at gathers legal files p x log loaded at_p g.made in
+        let l = loaded-at legal files p x log loaded at_p g.made in
         ap (λ b. text_given b p (first_read p files.reads)) go.bundled
         ∙ (ap (text_given table p) l.first
         ∙ (ap (λ z. text_given table z (Some l.entry.outcome)) (sym l.named)
         ∙ sym (told l.entry l.read)))
 
     fails-so : (b : Bool) → are_same_bytes (text_given [] [] (Some o)) text ≡ b
-        → ends gathers files event ≡ not b
+        → fails files event ≡ not b
     fails-so b h = rw (answered, texts-are, h) refl
 
     checked : AreAnswered legal (reads_in (kept ++ event ∷ [])) new
@@ -114,14 +114,14 @@ module _ (gathers : Bool) (legal : Legal) (files : Files) (table : List (Text ×
         (record { asked = the_reader own; path = p }) n.0 g.answers n.2 (rw n.3 ok)))
 
     pub check-good : are_same_bytes (text_given [] [] (Some o)) text ≡ true
-        → Good gathers legal files (kept ++ checks kept (at p own)) loaded new []
+        → Good legal files (kept ++ checks kept (at p own)) loaded new []
     check-good h = rw checks-are (record {
       answers = checked;
       elabs = rw (elab_paths-append kept (event ∷ []), append-nil) g.elabs;
-      clean = find-none (ends gathers files) kept (event ∷ []) g.clean (rw (fails-so true h) refl);
+      clean = find-none (fails files) kept (event ∷ []) g.clean (rw (fails-so true h) refl);
       settled = λ q f w. settled-more kept (kept ++ event ∷ []) f.height _ (g.settled q f w)
           (λ x v. has-left x kept (event ∷ []) v);
-      made = rw n.1 (all-into _ _ (loaded-more gathers legal files log n.0) loaded g.made);
+      made = rw n.1 (all-into _ _ (loaded-more legal files log n.0) loaded g.made);
       known = λ q v. elim (has-in (load the_resolver q) kept (event ∷ []) v) [
         | inl w ↦ elim (g.known q w)
             [ inl y ↦ inl y | inr y ↦ inr (has-left (elab q) kept (event ∷ []) y) ]
@@ -137,7 +137,7 @@ module _ (gathers : Bool) (legal : Legal) (files : Files) (table : List (Text ×
     })
 
     pub check-halts : (f : RunFault) → are_same_bytes (text_given [] [] (Some o)) text ≡ false
-        → StandsInCheck own p (Some o) f → Stops gathers legal files
+        → StandsInCheck own p (Some o) f → Stops legal files
         (kept ++ checks kept (at p own)) new f
     check-halts f h s = inl (record {
       before = kept;
@@ -155,7 +155,7 @@ module _ (gathers : Bool) (legal : Legal) (files : Files) (table : List (Text ×
         → OnOk r (are_same_bytes (text_given [] [] (Some o)) text ≡ true)
         → IfErr r (λ f. OrMemory f (are_same_bytes (text_given [] [] (Some o)) text ≡ false))
         → IfErr r (λ f. OrMemory f (StandsInCheck own p (Some o) f))
-        → Goes gathers legal files (kept ++ checks kept (at p own)) loaded new r
+        → Goes legal files (kept ++ checks kept (at p own)) loaded new r
     check-ends (Ok _) n s d t = check-good s
     check-ends (Err f) n s d t =
         check-halts f (but_memory f (λ m. n (ap Err m)) d) (but_memory f (λ m. n (ap Err m)) t)

@@ -1,6 +1,5 @@
 -- How often files are met: once for each input and each import statement of the files that are
 -- loaded.
-use Rattle.std.specs.Prelude.{Bool}
 use Rattle.std.proofs.Common.{◌≡◌, ℕ, ◌+◌, ◌<◌, ◌≤◌, true, false, cond, List, [], ◌∷◌, ◌++◌, Some}
 use Rattle.std.proofs.Common.{Result, sym, ◌∙◌, ap, subst, append-nil, append_assoc, length, arith}
 use Rattle.protobuf_parse_syntax.specs.Trees.{FileSyntax}
@@ -59,7 +58,7 @@ count-check trees kept v old new same =
     let e = after-checks trees kept v in
     omega (arith, h, e, same)
 
-module _ (gathers : Bool) (legal : Legal) (files : Files) where
+module _ (legal : Legal) (files : Files) where
   abbrev count : List Event → ℕ
   count events = import_statements files.trees events
 

@@ -1,10 +1,10 @@
 -- What a file becomes over numbered files is what it becomes over the files that it reaches and
 -- sees, however these are listed.
-use Rattle.std.proofs.Common.{◌≡◌, ℕ, zero, suc, ◌≤◌, Bool, true, false, not, ◌||◌, inl, inr}
+use Rattle.std.proofs.Common.{◌≡◌, ℕ, zero, suc, ◌≤◌, Bool, true, false, ◌||◌, inl, inr}
 use Rattle.std.proofs.Common.{List, [], ◌∷◌, ◌++◌, flat_map, map, Option, Some, None, option_map}
 use Rattle.std.proofs.Common.{refl, sym, ◌∙◌, ap, subst, arith, Result, Ok, Err, append_assoc}
 use Rattle.std.proofs.Common.{Contains}
-use Rattle.std.specs.Prelude.{bytes_eq, if◌then◌else◌, slice_get, option_to_list, string_bytes}
+use Rattle.std.specs.Prelude.{bytes_eq, slice_get, option_to_list, string_bytes}
 use Rattle.std.specs.Prelude.{nat_eq}
 use Rattle.protobuf_parse_lexer.specs.declared.lexer.token.Place.{Place}
 use Rattle.std.specs.List.{AllByRecursion, list_any}
@@ -35,18 +35,16 @@ use Rattle.protobuf_parse_options.proofs.WithoutOptions.{customs_ignore_options}
 use Rattle.protobuf_parse_run.specs.Walks.{Trees, Reaches, HandsOn, Sees, sees_itself, by_import}
 use Rattle.protobuf_parse_run.specs.Walks.{among, import_paths}
 use Rattle.protobuf_parse_run.specs.Run.{Files, FilesAreListed, StandsInElab, customs_of}
-use Rattle.protobuf_parse_run.specs.Run.{IsToldAt, environment_of, ending_faults, faults_at}
-use Rattle.protobuf_parse_run.specs.Run.{is_faulty}
-use Rattle.protobuf_parse_run.specs.Run.{is_nothing, origin_given, own_faults, plains_at}
+use Rattle.protobuf_parse_run.specs.Run.{IsToldAt, environment_of, faults_at}
+use Rattle.protobuf_parse_run.specs.Run.{origin_given, own_faults, plains_at}
 use Rattle.protobuf_parse_run.specs.PlainRuns.{plain_of}
-use Rattle.protobuf_parse_run.specs.Run.{report_at}
 use Rattle.protobuf_parse_run.specs.Repeats.{declaring, repeat_faults, repeat_place, told_at}
 use Rattle.protobuf_parse_run.specs.Loading.{Agrees, AreJoined, AreKnown, FilesAreNumbered}
 use Rattle.protobuf_parse_run.specs.Loading.{AreNumbersOf, LoadedEntry, IsLoaded, IsNumbered, Named}
-use Rattle.protobuf_parse_run.specs.Loading.{ElaboratesFile, ElaboratesOver, any_faulty}
+use Rattle.protobuf_parse_run.specs.Loading.{ElaboratesFile, ElaboratesOver}
 use Rattle.protobuf_parse_run.specs.Loading.{customs_over}
-use Rattle.protobuf_parse_run.specs.Loading.{IsToldOver, ending_over, faults_over, file_at, has_faults}
-use Rattle.protobuf_parse_run.specs.Loading.{own_over, report_over, file_over, named_trees}
+use Rattle.protobuf_parse_run.specs.Loading.{IsToldOver, faults_over, file_at}
+use Rattle.protobuf_parse_run.specs.Loading.{own_over, file_over, named_trees}
 use Rattle.protobuf_parse_run.specs.Loading.{paths_in, picked_descriptors, descriptor_in}
 use Rattle.protobuf_parse_run.specs.Loading.{plain_over, descriptors_next, tree_in, trees_of}
 use Rattle.protobuf_parse_run.specs.Loading.{with_next, declaring_numbers, reach_in, reaches_number}
@@ -61,13 +59,12 @@ use Rattle.protobuf_parse_run.proofs.Keeping.{or_cases, or_left, or_right, among
 use Rattle.protobuf_parse_run.proofs.Keeping.{text-true}
 use Rattle.protobuf_parse_run.proofs.Knowing.{agrees-push, next-trees, leads-out, once-push}
 use Rattle.protobuf_parse_run.proofs.Knowing.{sees-out, sees-reaches}
-use Rattle.protobuf_parse_run.proofs.Numbers.{name_of, numbered-more, numbers-joined, only-one}
+use Rattle.protobuf_parse_run.proofs.Numbers.{numbered-more, numbers-joined, only-one}
 use Rattle.protobuf_parse_run.proofs.Numbers.{path-in}
-use Rattle.protobuf_parse_run.proofs.Steps.{get-more}
 use Rattle.protobuf_parse_run.proofs.FirstFaults.{no-others, none-after, none-before}
 use Rattle.protobuf_parse_run.proofs.ToldFirst.{told-moved}
-use Rattle.protobuf_parse_run.proofs.Faulty.{any-number, any-text, at-end, entry-at, faulty-entry}
-use Rattle.protobuf_parse_run.proofs.Faulty.{number-any, same-bool, text-any}
+use Rattle.protobuf_parse_run.proofs.Faulty.{any-number, entry-at}
+use Rattle.protobuf_parse_run.proofs.Faulty.{number-any, same-bool}
 use Rattle.protobuf_parse_run.proofs.Reordering.{HavePackages, customs-same}
 use Rattle.protobuf_parse_run.proofs.Repeating.{AgreeAt, AreAlike, among-number, among-path}
 use Rattle.protobuf_parse_run.proofs.Repeating.{found-at}
@@ -146,16 +143,16 @@ plains-are files named (n ∷ ns) agrees =
     ∙ sym (plains_at-append files at (paths_by named ns))
 
 -- but for options, the loaded files have the descriptors of their trees
-pub made-alike : (gathers : Bool) (files : Files) (log : List ReadEntry)
+pub made-alike : (files : Files) (log : List ReadEntry)
     (loaded : List LoadedEntry)
-    → AllByRecursion (λ (e : LoadedEntry). IsLoaded gathers files log (string_bytes e.0) e.1) loaded
+    → AllByRecursion (λ (e : LoadedEntry). IsLoaded files log (string_bytes e.0) e.1) loaded
     → DifferOnlyInOptions (map descriptor_in loaded)
     (map (described_by files) (named_trees loaded))
-made-alike gathers files log [] made = refl
-made-alike gathers files log (e ∷ loaded) made =
+made-alike files log [] made = refl
+made-alike files log (e ∷ loaded) made =
     ap (λ d. d ∷ map bare_file (map descriptor_in loaded)) made.0.alike
     ∙ ap (λ ds. bare_file (plain_of files (string_bytes e.0) (tree_in e.1)) ∷ ds)
-    (made-alike gathers files log loaded made.1)
+    (made-alike files log loaded made.1)
 
 pub bare-one : (o : Option FileDescriptor)
     → option_to_list (option_map bare_file o) ≡ map bare_file (option_to_list o)
@@ -328,11 +325,6 @@ declared-some extension name None h = cc
 declared-some extension name (Some u) h = (u, refl)
 
 -- ** the next file
-
--- Of each loaded file it is noted whether something is wrong in it.
-abbrev pub AreFlagged : Files → List LoadedEntry → Type 0
-AreFlagged files loaded = (n : ℕ) (e : LoadedEntry) → slice_get loaded n ≡ Some e
-    → e.1.faulty ≡ is_faulty files (string_bytes e.0)
 
 -- What is known where a file is elaborated whose imports are loaded.
 pub record IsNext (files : Files) (loaded : List LoadedEntry) (tables : Tables)
@@ -611,19 +603,7 @@ module _ (files : Files) (loaded : List LoadedEntry) (tables : Tables) (log : Li
       → plain_over (with_next loaded t) sight p t ≡ plain_of files p t
   over-plain h = own-is h
 
-  -- ** where faults are gathered
-
-  pub ending-linked : (gathers : Bool)
-      → ending_over gathers loaded (with_next loaded t) descriptors reach sight t ≡ []
-      → linked ≡ []
-  ending-linked true h = repeats-none h
-  ending-linked false h = over-linked h
-
-  pub ending-faultless : (gathers : Bool)
-      → ending_over gathers loaded (with_next loaded t) descriptors reach sight t ≡ []
-      → ending_faults gathers files p (Some t) ≡ []
-  ending-faultless true h = repeats-again h
-  ending-faultless false h = over-faultless h
+  -- ** which of them is told
 
   pub own-same : linked ≡ [] → own_over (with_next loaded t) sight t ≡ own_faults files p (Some t)
   own-same h = ap (λ (env : Environment). file_faults env t) (same-types h no_customs)
@@ -637,69 +617,6 @@ module _ (files : Files) (loaded : List LoadedEntry) (tables : Tables) (log : Li
       ∙ ap (λ (c : Customs). file_faults (environment (trees_at files.trees (files.seen p)) c t) t)
       (same-customs h)
 
-  is-faulty-here : (own : Bool) → own ≡ not (is_nothing (own_faults files p (Some t)))
-      → own ≡ is_faulty files p
-  is-faulty-here own is =
-      is ∙ ap (λ (o : Option FileSyntax). not (is_nothing (own_faults files p o))) (sym n.is)
-
-  faulty-reached : AreFlagged files loaded → (own : Bool) → own ≡ is_faulty files p
-      → any_faulty loaded reach own ≡ true
-      → list_any (is_faulty files) (files.reached p) ≡ true
-  faulty-reached flags own is h =
-      elim (or_cases own (list_any (λ (m : ℕ). has_faults (slice_get loaded m)) reach) h) [
-        | inl w ↦ any-text (is_faulty files) (files.reached p) p
-            (sym (same-reach p) ∙ reached-by.all p (stays p)) (sym is ∙ w)
-        | inr w ↦
-            let r = number-any (λ (m : ℕ). has_faults (slice_get loaded m)) reach w in
-            let e = faulty-entry (slice_get loaded r.0) r.2 in
-            let name = string_bytes e.0.0 in
-            let at : IsNumbered with_p r.0 name = (
-              tree_in e.0.1,
-              get-more (named_trees loaded) ((p, t) ∷ []) r.0 (name_of e.0)
-                  (slice_get-map name_of loaded r.0 ∙ ap (option_map name_of) e.1),
-            ) in
-            any-text (is_faulty files) (files.reached p) name
-            (sym (same-reach name) ∙ by-path with_p reach name r.0 r.1 at)
-            (sym (flags r.0 e.0 e.1) ∙ e.2)
-      ]
-
-  reached-faulty : AreFlagged files loaded → (own : Bool) → own ≡ is_faulty files p
-      → list_any (is_faulty files) (files.reached p) ≡ true
-      → any_faulty loaded reach own ≡ true
-  reached-faulty flags own is h =
-      let q = text-any (is_faulty files) (files.reached p) h in
-      let r = by-number with_p reach q.0 (same-reach q.0 ∙ q.1) in
-      elim (at-end (named_trees loaded) (p, t) r.0 (q.0, r.2.0) r.2.1) [
-        | inl w ↦
-            let e = entry-at loaded r.0 (q.0, r.2.0) w in
-            let name : string_bytes e.0.0 ≡ q.0 = ap (λ (f : Named). f.0) e.2 in
-            or_right own _
-            (any-number (λ (m : ℕ). has_faults (slice_get loaded m)) reach r.0 r.1
-            (ap has_faults e.1 ∙ flags r.0 e.0 e.1 ∙ ap (is_faulty files) name ∙ q.2))
-        | inr w ↦
-            or_left own _ (is ∙ ap (is_faulty files) (ap (λ (f : Named). f.0) w) ∙ q.2)
-      ]
-
-  pub over-report : AreFlagged files loaded → linked ≡ [] → (own : Bool)
-      → own ≡ not (is_nothing (own_over (with_next loaded t) sight t))
-      → report_over (with_next loaded t) descriptors reach sight (any_faulty loaded reach own) t
-      ≡ report_at files p t
-  over-report flags h own is =
-      let here = is-faulty-here own
-      (is ∙ ap (λ (fs : List elaborating.Fault). not (is_nothing fs)) (own-same h)) in
-      let any = same-bool (any_faulty loaded reach own)
-      (list_any (is_faulty files) (files.reached p)) (faulty-reached flags own here)
-      (reached-faulty flags own here) in
-      ap (λ (fs : List elaborating.Fault). before_others fs
-      (if any_faulty loaded reach own then [] else
-      file_faults (environment (picked (with_next loaded t) sight)
-      (customs_over descriptors reach sight) t) t)) (own-same h)
-      ∙ ap (λ (b : Bool). before_others (own_faults files p (Some t)) (if b then [] else
-      file_faults (environment (picked (with_next loaded t) sight)
-      (customs_over descriptors reach sight) t) t)) any
-      ∙ ap (λ (fs : List elaborating.Fault). before_others (own_faults files p (Some t))
-      (if list_any (is_faulty files) (files.reached p) then [] else fs)) (customs-told-same h)
-
   told-equal : linked ≡ []
       → before_others (own_over (with_next loaded t) sight t)
       (file_faults (environment (picked (with_next loaded t) sight)
@@ -711,12 +628,10 @@ module _ (files : Files) (loaded : List LoadedEntry) (tables : Tables) (log : Li
       (customs_over descriptors reach sight) t) t)) (own-same h)
       ∙ ap (before_others (own_faults files p (Some t))) (customs-told-same h)
 
-  pub ending-told : (gathers : Bool) (f : elaborating.Fault)
-      → IsToldOver gathers loaded (with_next loaded t) descriptors reach sight t f
-      → IsToldAt gathers files p (Some t) f
-  ending-told true f h =
-      told-moved repeats repeats_in [] [] f repeats-told (λ none. (repeats-again none, refl)) h
-  ending-told false f h =
+  pub over-told : (f : elaborating.Fault)
+      → IsToldOver loaded (with_next loaded t) descriptors reach sight t f
+      → IsToldAt files p (Some t) f
+  over-told f h =
       told-moved repeats repeats_in _ _ f repeats-told
       (λ none. (repeats-again none, told-equal (repeats-none none))) h
 
@@ -730,20 +645,20 @@ stands-more origin Over At (fault.Memory) more s = absurd s
 stands-more origin Over At _ more s = absurd s
 
 -- what an elaboration over numbered files leaves
-pub settled-in : (gathers : Bool) (files : Files) (loaded new : List LoadedEntry)
+pub settled-in : (files : Files) (loaded new : List LoadedEntry)
     (tables after : Tables) (p : Text)
     (t : FileSyntax) (height read : ℕ) (below public : List ℕ) (log : List ReadEntry)
     (r : Result LoadedAs RunFault)
-    → IsNext files loaded tables log p t below → AreFlagged files loaded
-    → ElaboratesOver gathers p t height read below public log loaded new after r
-    → ElaboratesFile gathers files p t height read log loaded new r
-settled-in gathers files loaded new tables after p t height read below public log
-    (Ok placed) n flags over =
+    → IsNext files loaded tables log p t below
+    → ElaboratesOver p t height read below public log loaded new after r
+    → ElaboratesFile files p t height read log loaded new r
+settled-in files loaded new tables after p t height read below public log
+    (Ok placed) n over =
     λ missing.
     let a = over missing in
     let reach = a.file.reach.items in
-    let linked = ending-linked files loaded tables log p t below n reach a.sight a.reaches a.sees
-    gathers a.faultless in
+    let linked = over-linked files loaded tables log p t below n reach a.sight a.reaches a.sees
+    a.faultless in
     record {
       key = a.key;
       file = a.file;
@@ -753,46 +668,40 @@ settled-in gathers files loaded new tables after p t height read below public lo
       height_is = a.height_is;
       read_is = a.read_is;
       faultless =
-          ending-faultless files loaded tables log p t below n reach a.sight a.reaches a.sees
-          gathers a.faultless;
-      descriptor = λ runs. a.descriptor runs
+          over-faultless files loaded tables log p t below n reach a.sight a.reaches a.sees
+          a.faultless;
+      descriptor = a.descriptor
           ∙ over-descriptor files loaded tables log p t below n reach a.sight a.reaches a.sees
           linked;
       alike = a.alike
           ∙ ap bare_file (over-plain files loaded tables log p t below n reach a.sight a.reaches
           a.sees linked);
-      faulty = a.faulty
-          ∙ ap (λ (fs : List elaborating.Fault). not (is_nothing fs))
-          (own-same files loaded tables log p t below n reach a.sight a.reaches a.sees linked);
-      told = a.told
-          ∙ over-report files loaded tables log p t below n reach a.sight a.reaches a.sees flags
-          linked a.file.faulty a.faulty;
       placed_is = a.height_placed;
     }
-settled-in gathers files loaded new tables after p t height read below public log (Err f) n flags over =
+settled-in files loaded new tables after p t height read below public log (Err f) n over =
     λ e found named.
     elim (over e found named) [
       | inl w ↦
           inl (stands-more (origin_given p (Some e.outcome))
-          (IsToldOver gathers loaded (with_next loaded t) (descriptors_next loaded w.1 p t) w.0 w.1
+          (IsToldOver loaded (with_next loaded t) (descriptors_next loaded w.1 p t) w.0 w.1
           t)
-          (IsToldAt gathers files p (Some t)) f
-          (λ g m. ending-told files loaded tables log p t below n w.0 w.1 w.2 w.3 gathers g m) w.4)
+          (IsToldAt files p (Some t)) f
+          (λ g m. over-told files loaded tables log p t below n w.0 w.1 w.2 w.3 g m) w.4)
       | inr w ↦ inr w
     ]
 
 -- the loaded files have the trees of their paths
-pub agrees-made : (gathers : Bool) (files : Files) (log : List ReadEntry)
+pub agrees-made : (files : Files) (log : List ReadEntry)
     (loaded : List LoadedEntry)
-    → AllByRecursion (λ (e : LoadedEntry). IsLoaded gathers files log (string_bytes e.0) e.1) loaded
+    → AllByRecursion (λ (e : LoadedEntry). IsLoaded files log (string_bytes e.0) e.1) loaded
     → Agrees files.trees (named_trees loaded)
-agrees-made gathers files log [] made n q u h = cc
-agrees-made gathers files log (e ∷ loaded) made zero q u h =
+agrees-made files log [] made n q u h = cc
+agrees-made files log (e ∷ loaded) made zero q u h =
     let same : (string_bytes e.0, tree_in e.1)
     ≡ (q, u) = some_is (string_bytes e.0, tree_in e.1) (q, u) h in
     subst (λ (f : Named). files.trees f.0 ≡ Some f.1) same made.0.is
   where
     some_is : (a b : Named) → Some a ≡ Some b → a ≡ b
     some_is a b h = cc
-agrees-made gathers files log (e ∷ loaded) made (suc n) q u h =
-    agrees-made gathers files log loaded made.1 n q u h
+agrees-made files log (e ∷ loaded) made (suc n) q u h =
+    agrees-made files log loaded made.1 n q u h

@@ -1,18 +1,16 @@
--- Which of some files have faults, by their paths and by their numbers.
+-- Whether one of some files is such, by their paths and by their numbers.
 use Rattle.std.proofs.Common.{arith}
-use Rattle.std.proofs.Common.{◌≡◌, ◌⊎◌, inl, inr, ℕ, zero, suc, Bool, true, false, List, [], ◌∷◌}
-use Rattle.std.proofs.Common.{◌++◌, Option, Some, None, option_map, refl, sym, ◌∙◌, subst}
+use Rattle.std.proofs.Common.{◌≡◌, inl, inr, ℕ, Bool, true, false, List, [], ◌∷◌}
+use Rattle.std.proofs.Common.{Option, Some, None, option_map, refl, sym, ◌∙◌, subst}
 use Rattle.std.proofs.Common.{Contains}
-use Rattle.std.specs.Prelude.{bytes_eq, slice_get, string_bytes}
-use Rattle.std.specs.List.{AllByRecursion, list_any}
+use Rattle.std.specs.Prelude.{bytes_eq, slice_get}
+use Rattle.std.specs.List.{list_any}
 use Rattle.std.proofs.lemmas.Option.{slice_get-map}
 use Rattle.std.proofs.lemmas.List.Elements.{Contains-append_cases, Contains-append_left}
 use Rattle.std.proofs.lemmas.List.Elements.{Contains-append_right}
 use Rattle.protobuf_parse_model.specs.Descriptors.{Text}
-use Rattle.protobuf_parse_run.specs.declared.log.ReadEntry.{ReadEntry}
 use Rattle.protobuf_parse_run.specs.Walks.{among}
-use Rattle.protobuf_parse_run.specs.Run.{Files, is_faulty}
-use Rattle.protobuf_parse_run.specs.Loading.{IsLoaded, LoadedEntry, Named, has_faults, named_trees}
+use Rattle.protobuf_parse_run.specs.Loading.{LoadedEntry, Named, named_trees}
 use Rattle.protobuf_parse_run.proofs.Keeping.{or_cases, or_left, or_right, text-same, text-true}
 use Rattle.protobuf_parse_run.proofs.Numbers.{name_of, only-one}
 
@@ -71,17 +69,6 @@ any-number test (m ∷ ns) n c h =
 
 -- ** loaded files
 
--- what stands at a number is one of them, or the last
-pub at-end : (fs : List Named) (f : Named) (n : ℕ) (g : Named) → slice_get (fs ++ f ∷ []) n ≡ Some g
-    → (slice_get fs n ≡ Some g) ⊎ (f ≡ g)
-at-end [] f zero g h = inr (some_is f g h)
-  where
-    some_is : (a b : Named) → Some a ≡ Some b → a ≡ b
-    some_is a b h = cc
-at-end [] f (suc n) g h = cc
-at-end (x ∷ fs) f zero g h = inl h
-at-end (x ∷ fs) f (suc n) g h = at-end fs f n g h
-
 -- the loaded file that has this name and tree
 pub entry-at : (loaded : List LoadedEntry) (n : ℕ) (f : Named)
     → slice_get (named_trees loaded) n ≡ Some f
@@ -95,23 +82,3 @@ entry-at loaded n f h = out (slice_get loaded n) refl (sym (slice_get-map name_o
         → (e : LoadedEntry) × (slice_get loaded n ≡ Some e) × (name_of e ≡ f)
     out None is k = cc
     out (Some e) is k = (e, is, some_is (name_of e) f k)
-
-pub faulty-entry : (o : Option LoadedEntry) → has_faults o ≡ true
-    → (e : LoadedEntry) × (o ≡ Some e) × (e.1.faulty ≡ true)
-faulty-entry None h = cc
-faulty-entry (Some e) h = (e, refl, h)
-
--- they have faults just where their trees do
-pub flags-made : (gathers : Bool) (files : Files) (log : List ReadEntry) (loaded : List LoadedEntry)
-    → AllByRecursion (λ (e : LoadedEntry). IsLoaded gathers files log (string_bytes e.0) e.1) loaded
-    → (n : ℕ) (e : LoadedEntry) → slice_get loaded n ≡ Some e
-    → e.1.faulty ≡ is_faulty files (string_bytes e.0)
-flags-made gathers files log [] made n e h = cc
-flags-made gathers files log (x ∷ loaded) made zero e h =
-    subst (λ (z : LoadedEntry). z.1.faulty ≡ is_faulty files (string_bytes z.0))
-    (some_is x e h) made.0.faulty
-  where
-    some_is : (a b : LoadedEntry) → Some a ≡ Some b → a ≡ b
-    some_is a b h = cc
-flags-made gathers files log (x ∷ loaded) made (suc n) e h =
-    flags-made gathers files log loaded made.1 n e h

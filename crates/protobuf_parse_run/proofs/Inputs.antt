@@ -1,5 +1,4 @@
 -- The inputs of a run, one after another.
-use Rattle.std.specs.Prelude.{Bool}
 use Rattle.std.proofs.Common.{◌≡◌, false, inl, inr, List, [], ◌∷◌, ◌++◌, None, Result, Ok, Err}
 use Rattle.std.proofs.Common.{refl, sym, ◌∙◌, ap, subst, append_assoc, append-nil}
 use Rattle.protobuf_parse_model.specs.Descriptors.{Text}
@@ -28,9 +27,9 @@ pub events-none : (trees : Trees) (kept : List Event) → events_after trees kep
 unfolding events_after
 events-none trees kept = refl
 
-module _ (gathers : Bool) (legal : Legal) (files : Files) where
+module _ (legal : Legal) (files : Files) where
   pub stops-append : (events more : List Event) (log : List ReadEntry) (f : RunFault)
-      → Stops gathers legal files events log f → Stops gathers legal files (events ++ more) log f
+      → Stops legal files events log f → Stops legal files (events ++ more) log f
   stops-append events more log f (inl h) = inl (record {
     before = h.before;
     event = h.event;
@@ -51,21 +50,21 @@ module _ (gathers : Bool) (legal : Legal) (files : Files) where
   })
 
   stops-after : (kept : List Event) (is : List Input) (log : List ReadEntry) (f : RunFault)
-      → Stops gathers legal files kept log f
-      → Stops gathers legal files (events_after files.trees kept is) log f
+      → Stops legal files kept log f
+      → Stops legal files (events_after files.trees kept is) log f
   unfolding events_after
   stops-after kept [] log f h = h
   stops-after kept (i ∷ is) log f h =
       stops-after (keep (kept ++ checks kept i) (input_walk files.trees i)) is log f
-      (stops-more gathers legal files _ (input_walk files.trees i) log f
+      (stops-more legal files _ (input_walk files.trees i) log f
       (stops-append kept (checks kept i) log f h))
 
   pub inputs-step : (done next : List Input) (i : Input) (loaded : List LoadedEntry)
       (log : List ReadEntry) → next ≡ done ++ i ∷ []
-      → Good gathers legal files
+      → Good legal files
       (keep (events files.trees done ++ checks (events files.trees done) i)
       (input_walk files.trees i)) loaded log []
-      → Good gathers legal files (events files.trees next) loaded log []
+      → Good legal files (events files.trees next) loaded log []
   inputs-step done next i loaded log is g =
       rw (
         is,
@@ -75,12 +74,12 @@ module _ (gathers : Bool) (legal : Legal) (files : Files) where
 
   pub inputs-stop : (inputs done rest : List Input) (i : Input) (log : List ReadEntry)
       (f : RunFault) → inputs ≡ done ++ i ∷ rest
-      → Stops gathers legal files
+      → Stops legal files
       (keep (events files.trees done ++ checks (events files.trees done) i)
       (input_walk files.trees i)) log f
-      → Stops gathers legal files (events files.trees inputs) log f
+      → Stops legal files (events files.trees inputs) log f
   inputs-stop inputs done rest i log f is h =
-      let one = subst (λ (z : List Event). Stops gathers legal files z log f)
+      let one = subst (λ (z : List Event). Stops legal files z log f)
       (sym (events-one files.trees (events files.trees done) i)) h in
       let all : events files.trees inputs
       ≡ events_after files.trees (events_after files.trees (events files.trees done) (i ∷ []))
@@ -91,7 +90,7 @@ module _ (gathers : Bool) (legal : Legal) (files : Files) where
       in
       rw all (stops-after _ rest log f one)
 
-  pub good-start : Good gathers legal files [] [] [] []
+  pub good-start : Good legal files [] [] [] []
   good-start = record {
     answers = tt;
     elabs = refl;
@@ -105,45 +104,45 @@ module _ (gathers : Bool) (legal : Legal) (files : Files) where
 
   input-stops : (kept base : List Event) (i v : Input) (log : List ReadEntry) (f : RunFault) → v ≡ i
       → base ≡ kept ++ checks kept i
-      → Stops gathers legal files (keep base (input_walk files.trees i)) log f
-      → Stops gathers legal files (keep (kept ++ checks kept v) (input_walk files.trees v)) log f
+      → Stops legal files (keep base (input_walk files.trees i)) log f
+      → Stops legal files (keep (kept ++ checks kept v) (input_walk files.trees v)) log f
   input-stops kept base i v log f is b stops =
-      rw is (subst (λ (z : List Event). Stops gathers legal files
+      rw is (subst (λ (z : List Event). Stops legal files
       (keep z (input_walk files.trees i)) log f)
       b stops)
 
   input-goes : (kept base : List Event) (i v : Input) (loaded : List LoadedEntry)
       (log : List ReadEntry)
       → v ≡ i → base ≡ kept ++ checks kept i
-      → Good gathers legal files (keep base (input_walk files.trees i)) loaded log []
-      → Good gathers legal files (keep (kept ++ checks kept v)
+      → Good legal files (keep base (input_walk files.trees i)) loaded log []
+      → Good legal files (keep (kept ++ checks kept v)
       (input_walk files.trees v)) loaded log []
   input-goes kept base i v loaded log is b good =
       rw is (subst
-      (λ (z : List Event). Good gathers legal files
+      (λ (z : List Event). Good legal files
       (keep z (input_walk files.trees i)) loaded log []) b
       good)
 
   pub input-ends : (r : Result (Unit {0}) RunFault) (kept base : List Event) (i v : Input)
       (loaded : List LoadedEntry) (log : List ReadEntry) → v ≡ i → base ≡ kept ++ checks kept i
-      → Goes gathers legal files (keep base (input_walk files.trees i)) loaded log r
-      → Goes gathers legal files (keep (kept ++ checks kept v)
+      → Goes legal files (keep base (input_walk files.trees i)) loaded log r
+      → Goes legal files (keep (kept ++ checks kept v)
       (input_walk files.trees v)) loaded log r
   input-ends (Ok done) kept base i v loaded log is b h = input-goes kept base i v loaded log is b h
   input-ends (Err f) kept base i v loaded log is b h = input-stops kept base i v log f is b h
 
   pub check-stops : (kept : List Event) (i v : Input) (log : List ReadEntry) (f : RunFault) → v ≡ i
-      → Stops gathers legal files (kept ++ checks kept i) log f
-      → Stops gathers legal files (keep (kept ++ checks kept v) (input_walk files.trees v)) log f
+      → Stops legal files (kept ++ checks kept i) log f
+      → Stops legal files (keep (kept ++ checks kept v) (input_walk files.trees v)) log f
   check-stops kept i v log f is h =
-      rw is (stops-more gathers legal files (kept ++ checks kept i)
+      rw is (stops-more legal files (kept ++ checks kept i)
       (input_walk files.trees i) log f h)
 
   -- an input whose path isn't loaded is not checked
   pub no-check : (kept : List Event) (loaded : List LoadedEntry) (log : List ReadEntry)
       (p q own : Text)
-      → q ≡ p → Good gathers legal files kept loaded log [] → file_at q loaded ≡ None
-      → Good gathers legal files (kept ++ checks kept (at p own)) loaded log []
+      → q ≡ p → Good legal files kept loaded log [] → file_at q loaded ≡ None
+      → Good legal files (kept ++ checks kept (at p own)) loaded log []
   no-check kept loaded log p q own e g none =
       let gone : file_at p loaded ≡ None = subst (λ (z : Text). file_at z loaded ≡ None) e none in
       let off : has (elab p) kept ≡ false = has-elab p kept

@@ -288,14 +288,14 @@ module _ (path : Text) (tree : FileSyntax) (imports public : List ℕ)
     ];
   }
 
-module _ (gathers : Bool) (path : Text) (tree : FileSyntax) (height read : ℕ)
+module _ (path : Text) (tree : FileSyntax) (height read : ℕ)
     (imports public : List ℕ)
     (old new : List LoadedEntry) (before after : Tables) (log : List ReadEntry) (placed : LoadedAs)
     (known : AreKnown old before log) (was_read : among path (read_paths log) ≡ true)
     (numbered : FilesAreNumbered (named_trees old) imports (import_paths tree))
     (publicly : FilesAreNumbered (named_trees old) public (public_paths tree))
     (none : file_at path old ≡ None)
-    (a : IsAddedOver gathers path tree height read imports public old new after placed) where
+    (a : IsAddedOver path tree height read imports public old new after placed) where
   pub known-push : AreKnown new after log
   known-push = subst (λ (es : List LoadedEntry). AreKnown es after log) (sym a.entries)
       (known-add path tree imports public old before after log a.key a.file known was_read numbered

@@ -17,7 +17,8 @@ use Rattle.protobuf_parse_run.specs.declared.loader.LoadedAs.{LoadedAs}
 use Rattle.protobuf_parse_run.specs.declared.log.ReadEntry.{ReadEntry}
 use Rattle.protobuf_parse_run.specs.declared.log.ReadOutcome.{ReadOutcome}
 use Rattle.protobuf_parse_run.specs.Walks.{Asked, Event, load, keep, among, walk}
-use Rattle.protobuf_parse_run.specs.Run.{Files, IsTheTree, StandsThere, StandsInCycle, Legal}
+use Rattle.protobuf_parse_run.specs.Run.{StandsAtEvent}
+use Rattle.protobuf_parse_run.specs.Run.{Files, IsTheTree, StandsInCycle, Legal}
 use Rattle.protobuf_parse_run.specs.Run.{StandsInLong, StandsInLoad, StandsInElab, text_given}
 use Rattle.protobuf_parse_run.specs.Run.{is_nothing}
 use Rattle.protobuf_parse_run.specs.Loading.{LoadedEntry, IsElabFault, file_at, Grows, Good, Stops}
@@ -95,70 +96,70 @@ stands-failing origin Told faults (fault.Elaborate file error) some h =
     some (fault_view error) h.1
 stands-failing origin Told faults _ some h = absurd h
 
-module _ (gathers : Bool) (legal : Legal) (files : Files) where
+module _ (legal : Legal) (files : Files) where
   pub leaves-cycle : (kept : List Event) (loaded : List LoadedEntry) (log : List ReadEntry)
       (chain : List Text) (i : Text) (a : Asked) (room : ℕ) (p q : Text) (f : RunFault) → q ≡ p
-      → Good gathers legal files kept loaded log chain → among q chain ≡ true
+      → Good legal files kept loaded log chain → among q chain ≡ true
       → OrMemory f (StandsInCycle q f)
-      → Stops gathers legal files (keep kept (walk files.trees i a room chain p)) log f
+      → Stops legal files (keep kept (walk files.trees i a room chain p)) log f
   leaves-cycle kept loaded log chain i a room p q f e g on s =
-      stops-cycle gathers legal files kept loaded log chain i a room p f g
+      stops-cycle legal files kept loaded log chain i a room p f g
       (subst (λ (z : Text). among z chain ≡ true) e on)
       (subst (λ (z : Text). OrMemory f (StandsInCycle z f)) e s)
 
   pub leaves-tall : (kept : List Event) (loaded : List LoadedEntry) (log : List ReadEntry)
       (chain : List Text) (i : Text) (a : Asked) (room : ℕ) (p q : Text) (placed : LoadedAs)
-      (f : RunFault) → q ≡ p → Good gathers legal files kept loaded log chain
+      (f : RunFault) → q ≡ p → Good legal files kept loaded log chain
       → IsPlaced q loaded (Some placed) → room < placed.height → OrMemory f (StandsInLong i f)
-      → Stops gathers legal files (keep kept (walk files.trees i a room chain p)) log f
+      → Stops legal files (keep kept (walk files.trees i a room chain p)) log f
   leaves-tall kept loaded log chain i a room p q placed f e g at lt s =
-      stops-tall gathers legal files kept loaded log chain i a room p at.0 f g
+      stops-tall legal files kept loaded log chain i a room p at.0 f g
       (subst (λ (z : Text). file_at z loaded ≡ Some at.0) e at.1) (rw at.2 at lt) s
 
   pub leaves-full : (kept : List Event) (loaded : List LoadedEntry) (log : List ReadEntry)
       (chain : List Text) (i : Text) (a : Asked) (room : ℕ) (p q : Text) (f : RunFault) → q ≡ p
-      → room ≡ 0 → Good gathers legal files kept loaded log chain → among q chain ≡ false
+      → room ≡ 0 → Good legal files kept loaded log chain → among q chain ≡ false
       → OrMemory f (StandsInLong i f)
-      → Stops gathers legal files (keep kept (walk files.trees i a room chain p)) log f
+      → Stops legal files (keep kept (walk files.trees i a room chain p)) log f
   leaves-full kept loaded log chain i a room p q f e none g off s =
-      rw none (stops-no_room gathers legal files kept loaded log chain i a p f g
+      rw none (stops-no_room legal files kept loaded log chain i a p f g
       (subst (λ (z : Text). among z chain ≡ false) e off) s)
 
   pub leaves-read : (table : List (Text × Text)) (kept : List Event) (loaded : List LoadedEntry)
       (log new : List ReadEntry) (chain : List Text) (i : Text) (a : Asked) (p : Text)
-      (f : RunFault) → GoesOn files table new → Good gathers legal files kept loaded log chain
+      (f : RunFault) → GoesOn files table new → Good legal files kept loaded log chain
       → among p chain ≡ false → file_at p loaded ≡ None → length chain < 100
       → ReadsTree legal table a p log new (Err f)
-      → Stops gathers legal files (keep kept
+      → Stops legal files (keep kept
       (walk files.trees i a (100 - length chain) chain p)) new f
   leaves-read table kept loaded log new chain i a p f go g off none lt (inr (m, same)) =
-      rw same (breaks-now gathers legal files kept
+      rw same (breaks-now legal files kept
       (walk files.trees i a (100 - length chain) chain p) loaded log chain f g m)
   leaves-read table kept loaded log new chain i a p f go g off none lt (inl r) =
       let grown : Grows (log ++ r.0 ∷ []) files.reads =
       subst (λ (z : List ReadEntry). Grows z files.reads) r.1 go.reads in
       let first =
-      unread-first gathers legal files kept loaded log chain p r.0 g off none r.2 grown in
+      unread-first legal files kept loaded log chain p r.0 g off none r.2 grown in
       let the = subst
       (λ (z : List (Text × Text)). IsTheTree (text_given z p (Some r.0.outcome)) None)
       (sym go.bundled) r.4 in
-      let is = tree-read gathers legal files kept loaded log chain p r.0 None g off none go.trees
+      let is = tree-read legal files kept loaded log chain p r.0 None g off none go.trees
       grown r.2
       the in
       let stands = subst
       (λ (z : List (Text × Text)). StandsInLoad a p (Some r.0.outcome)
       (text_given z p (Some r.0.outcome)) f) (sym go.bundled) r.5 in
-      let stands_at : StandsThere gathers files (load a p) f =
+      let stands_at : StandsAtEvent files (load a p) f =
       subst (λ (o : Option ReadOutcome). StandsInLoad a p o (text_given files.bundled p o) f)
       (sym first) stands in
       rw (r.1, room-is chain p lt)
-      (inl (halts-load gathers legal files kept loaded log chain i a
+      (inl (halts-load legal files kept loaded log chain i a
       (100 - length (chain ++ p ∷ [])) p r.0 f g off none r.2 r.3 is stands_at))
 
   -- the tree that was read
   pub tree-known : (table : List (Text × Text)) (kept : List Event) (loaded : List LoadedEntry)
       (log new later : List ReadEntry) (chain : List Text) (a : Asked) (p : Text) (tree : FileTree)
-      → GoesOn files table later → Grows new later → Good gathers legal files kept loaded log chain
+      → GoesOn files table later → Grows new later → Good legal files kept loaded log chain
       → among p chain ≡ false → file_at p loaded ≡ None
       → ReadsTree legal table a p log new (Ok tree) → files.trees p ≡ Some (file_syntax tree)
   tree-known table kept loaded log new later chain a p tree go since g off none r =
@@ -168,5 +169,5 @@ module _ (gathers : Bool) (legal : Legal) (files : Files) where
       let the = subst
       (λ (z : List (Text × Text)). IsTheTree (text_given z p (Some r.0.outcome))
       (Some (file_syntax tree))) (sym go.bundled) r.4 in
-      tree-read gathers legal files kept loaded log chain p r.0
+      tree-read legal files kept loaded log chain p r.0
       (Some (file_syntax tree)) g off none go.trees grown r.2 the

@@ -8,7 +8,6 @@ pub mod Leaving
 pub mod Inputs
 pub mod Checking
 pub mod Telling
-pub mod Reporting
 pub mod Counting
 pub mod Deciding
 pub mod Causing

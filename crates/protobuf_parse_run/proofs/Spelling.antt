@@ -1,23 +1,18 @@
 -- What custom options add to a file: faults beside its others, and bytes in its descriptor.
-use Rattle.std.proofs.Common.{arith, length, ◌≡◌, ◌++◌, ◌||◌, not, inl, inr, ℕ, Bool, true, map}
+use Rattle.std.proofs.Common.{◌≡◌, inl, inr, ℕ}
 use Rattle.std.proofs.Common.{List, [], ◌∷◌, flat_map, Ok, Err, refl, ◌∙◌, ap, sym}
 use Rattle.std.proofs.Common.{subst, false}
-use Rattle.std.specs.Global.{Vec}
-use Rattle.std.specs.Prelude.{if◌then◌else◌, vec_len, OnOk, Result}
-use Rattle.std.specs.Bool.{◌==◌}
-use Rattle.std.proofs.lemmas.Bool.{eqb-true}
-use Rattle.std.proofs.lemmas.List.{nil_from_length}
+use Rattle.std.specs.Prelude.{Result}
 use Rattle.std.specs.List.{list_any}
 use Rattle.protobuf_parse_syntax.specs.Trees.{FileSyntax}
 use Rattle.protobuf_parse_model.specs.Descriptors.{Text, FileDescriptor}
 use Rattle.protobuf_parse_model.specs.Environment.{Customs, no_customs}
 use Rattle.protobuf_parse_model.specs.Descriptors as described
-use Rattle.protobuf_parse_model.specs.Faults.{Among, here, there, Fault, IsFirst, TellsFirst, fault_view}
-use Rattle.protobuf_parse_model.specs.Faults.{found}
+use Rattle.protobuf_parse_model.specs.Faults.{Among, Elaborates, here, there, Fault, IsFirst}
+use Rattle.protobuf_parse_model.specs.Faults.{TellsFirst, fault_view}
 use Rattle.protobuf_parse_model.specs.Linking.{before_others}
 use Rattle.protobuf_parse_model.specs.Tables.{picked}
 use Rattle.protobuf_parse_model.specs.declared.descriptor.FileDescriptorProto.{FileDescriptorProto}
-use Rattle.protobuf_parse_model.specs.declared.error.ElabError.{ElabError}
 use Rattle.protobuf_parse_model.specs.declared.error.ElabFailure.{ElabFailure}
 use Rattle.protobuf_parse_model.specs.declared.error.ElabFailure.TheVariants as failure
 use Rattle.protobuf_parse_elaboration.specs.CustomSets.{faults_of_set, faults_of_sets, sets_custom}
@@ -38,9 +33,9 @@ use Rattle.protobuf_parse_options.specs.OptionBytes.{customs_by_files, option_by
 use Rattle.protobuf_parse_options.specs.WithoutOptions.{bare_file}
 use Rattle.protobuf_parse_options.proofs.BareFiles.{file-alike}
 use Rattle.protobuf_parse_run.specs.Loading.{ElaboratesTo, LoadedEntry, customs_over}
-use Rattle.protobuf_parse_run.specs.Loading.{any_faulty, own_over, plain_over, report_over}
+use Rattle.protobuf_parse_run.specs.Loading.{plain_over}
 use Rattle.protobuf_parse_run.specs.Loading.{descriptors_over, picked_descriptors, repeats_over}
-use Rattle.protobuf_parse_run.specs.Run.{Files, customs_of, is_nothing}
+use Rattle.protobuf_parse_run.specs.Run.{Files, customs_of}
 
 -- ** the faults of a file but those of names that are declared twice
 
@@ -133,74 +128,6 @@ pub options-alike : (seen : List FileSyntax) (c : Customs) (path : Text) (t : Fi
     ≡ bare_file (file_of (environment seen no_customs t) path t)
 options-alike seen c path t = file-alike c no_customs (environment seen c t) path t
 
--- ** what is told of custom options
-
-pub none-found : (faults : Vec ElabError) → (vec_len faults == 0) ≡ true → found faults ≡ []
-none-found faults is =
-    ap (map fault_view)
-    (nil_from_length faults.items (sym faults.ok.0 ∙ eqb-true (vec_len faults) 0 is))
-
-pub nothing-is : (faults : Vec ElabError) (fs : List Fault) → found faults ≡ fs
-    → (vec_len faults == 0) ≡ is_nothing fs
-nothing-is faults fs is =
-    ap (λ (n : ℕ). n == 0) faults.ok.0 ∙ none faults.items ∙ ap is_nothing is
-  where
-    none : (es : List ElabError) → (length es == 0) ≡ is_nothing (map fault_view es)
-    none [] = refl
-    none (e ∷ es) = some (length (e ∷ es) == 0) refl
-      where
-        some : (b : Bool) → (length (e ∷ es) == 0) ≡ b → b ≡ false
-        some true is = let no = eqb-true (length (e ∷ es)) 0 is in absurd (omega (arith, no))
-        some false is = refl
-
-module _ (files : List FileSyntax) (descriptors : List FileDescriptor) (reach sight : List ℕ)
-    (t : FileSyntax) where
-  abbrev customs_there : List Fault
-  customs_there =
-      file_faults (environment (picked files sight) (customs_over descriptors reach sight) t) t
-
-  -- where none is set, none is told
-  pub further-none : (faulty : Bool) (old : List Fault)
-      → list_any sets_custom (option_sets t) ≡ false → old ≡ [] → old ≡ own_over files sight t
-      → old ≡ report_over files descriptors reach sight faulty t
-  further-none faulty old none empty own =
-      let no-own : own_over files sight t ≡ [] = sym own ∙ empty in
-      empty ∙ sym (nothing faulty no-own (nothing-known (picked files sight)
-      (picked_descriptors descriptors reach) (picked_descriptors descriptors sight) t none no-own))
-    where
-      nothing : (faulty : Bool) → own_over files sight t ≡ [] → customs_there ≡ []
-          → report_over files descriptors reach sight faulty t ≡ []
-      nothing true own customs = rw own refl
-      nothing false own customs = rw (own, customs) refl
-
-  pub further-told : (faulty : Bool) (old new : List Fault) → old ≡ []
-      → old ≡ own_over files sight t → faulty ≡ false → new ≡ old ++ customs_there
-      → new ≡ report_over files descriptors reach sight faulty t
-  further-told faulty old new empty own clean told =
-      let no-own : own_over files sight t ≡ [] = sym own ∙ empty in
-      told ∙ ap (λ fs. fs ++ customs_there) empty ∙ sym (rw (no-own, clean) refl)
-
-  pub further-told-of : {X E : Type 0} (faulty : Bool) (old new : List Fault) (r : Result X E)
-      → old ≡ [] → old ≡ own_over files sight t → faulty ≡ false
-      → OnOk r (new ≡ old ++ customs_there)
-      → OnOk r (new ≡ report_over files descriptors reach sight faulty t)
-  further-told-of faulty old new (Ok x) empty own clean told =
-      further-told faulty old new empty own clean told
-  further-told-of faulty old new (Err e) empty own clean told = tt
-
-  -- the faults of the file itself stand for its own part
-  pub report-same : (own b : Bool) → own ≡ not (is_nothing (own_over files sight t))
-      → report_over files descriptors reach sight (own || b) t
-      ≡ report_over files descriptors reach sight b t
-  report-same own b is = ap (λ o. report_over files descriptors reach sight (o || b) t) is
-      ∙ by-own (own_over files sight t)
-    where
-      by-own : (fs : List Fault)
-          → before_others fs (if not (is_nothing fs) || b then [] else customs_there)
-          ≡ before_others fs (if b then [] else customs_there)
-      by-own [] = refl
-      by-own (f ∷ fs) = refl
-
 -- ** what a file becomes by numbers
 
 module _ (loaded : List LoadedEntry) (files : List FileSyntax) (reach sight : List ℕ) (path : Text)
@@ -224,53 +151,9 @@ module _ (loaded : List LoadedEntry) (files : List FileSyntax) (reach sight : Li
       (custom_option_faults reached_descriptors seen_descriptors t)) ≡ []
   all-faultless own options = rw (once, own) options
 
-  -- where nothing is wrong nothing is told
-  nothing-told : (faulty : Bool) → own_over files sight t ≡ []
-      → file_faults (environment seen (customs_over descriptors reach sight) t) t ≡ []
-      → report_over files descriptors reach sight faulty t ≡ []
-  nothing-told true own customs = rw own refl
-  nothing-told false own customs = rw (own, customs) refl
-
-  -- no custom option is set
-  pub none-set : (d : FileDescriptorProto) (faults : Vec ElabError) → faults.items ≡ []
-      → list_any sets_custom (option_sets t) ≡ false
-      → file_faults (environment seen no_customs t) t ≡ []
-      → described.file_view d ≡ plain_over files sight path t
-      → ElaboratesTo false loaded files reach sight path t
-      (Ok (record { descriptor = d; faults = faults; faulty = false }))
-  none-set d faults empty none own is = record {
-    faultless = all-faultless own (nothing-wrong seen reached_descriptors seen_descriptors t none);
-    descriptor = λ runs. is ∙ nothing-spelled seen reached_descriptors seen_descriptors t none path;
-    alike = ap bare_file is;
-    faulty = rw own refl;
-    told = ap (map fault_view) empty
-        ∙ sym (nothing-told (any_faulty loaded reach false) own
-        (nothing-known seen reached_descriptors seen_descriptors t none own));
-  }
-
-  -- some may be set
-  pub some-set : (c : Customs) (d : FileDescriptorProto) (faults : Vec ElabError)
-      → faults.items ≡ [] → c ≡ customs_over descriptors reach sight
-      → file_faults (environment seen no_customs t) t ≡ []
-      → file_faults (environment seen c t) t ≡ []
-      → described.file_view d ≡ file_of (environment seen c t) path t
-      → ElaboratesTo false loaded files reach sight path t
-      (Ok (record { descriptor = d; faults = faults; faulty = false }))
-  some-set c d faults empty same own none is = record {
-    faultless = all-faultless own
-        (options-faultless seen reached_descriptors seen_descriptors t
-        (subst (λ (k : Customs). file_faults (environment seen k t) t ≡ []) same none));
-    descriptor = λ runs. is ∙ ap (λ (k : Customs). file_of (environment seen k t) path t) same;
-    alike = ap bare_file is ∙ options-alike seen c path t;
-    faulty = rw own refl;
-    told = ap (map fault_view) empty
-        ∙ sym (nothing-told (any_faulty loaded reach false) own
-        (subst (λ (k : Customs). file_faults (environment seen k t) t ≡ []) same none));
-  }
-
-  -- the first of the file itself
+  -- the first fault of the file itself is told
   pub own-told : (e : ElabFailure) → TellsFirst e (file_faults (environment seen no_customs t) t)
-      → ElaboratesTo false loaded files reach sight path t (Err e)
+      → ElaboratesTo loaded files reach sight path t (Err e)
   own-told (failure.Memory) h = tt
   own-told (failure.Fault error) h =
       rw once (told-first (file_faults (environment seen no_customs t) t)
@@ -282,13 +165,35 @@ module _ (loaded : List LoadedEntry) (files : List FileSyntax) (reach sight : Li
       told-first [] others f m = absurd m
       told-first (a ∷ firsts) others f m = m
 
-  -- and that of its custom options
-  pub customs-told : (c : Customs) (e : ElabFailure) → c ≡ customs_over descriptors reach sight
+  -- no custom option is set
+  pub none-set : (r : Result FileDescriptorProto ElabFailure)
+      → list_any sets_custom (option_sets t) ≡ false
+      → Elaborates described.file_view r (file_faults (environment seen no_customs t) t)
+      (plain_over files sight path t)
+      → ElaboratesTo loaded files reach sight path t r
+  none-set (Ok d) none h = record {
+    faultless = all-faultless h.0 (nothing-wrong seen reached_descriptors seen_descriptors t none);
+    descriptor = h.1 ∙ nothing-spelled seen reached_descriptors seen_descriptors t none path;
+    alike = ap bare_file h.1;
+  }
+  none-set (Err e) none h = own-told e h
+
+  -- some may be set
+  pub some-set : (c : Customs) (r : Result FileDescriptorProto ElabFailure)
+      → c ≡ customs_over descriptors reach sight
       → file_faults (environment seen no_customs t) t ≡ []
-      → TellsFirst e (file_faults (environment seen c t) t)
-      → ElaboratesTo false loaded files reach sight path t (Err e)
-  customs-told c (failure.Memory) same own h = tt
-  customs-told c (failure.Fault error) same own h =
+      → Elaborates described.file_view r (file_faults (environment seen c t) t)
+      (file_of (environment seen c t) path t)
+      → ElaboratesTo loaded files reach sight path t r
+  some-set c (Ok d) same own h = record {
+    faultless = all-faultless own
+        (options-faultless seen reached_descriptors seen_descriptors t
+        (subst (λ (k : Customs). file_faults (environment seen k t) t ≡ []) same h.0));
+    descriptor = h.1 ∙ ap (λ (k : Customs). file_of (environment seen k t) path t) same;
+    alike = ap bare_file h.1 ∙ options-alike seen c path t;
+  }
+  some-set c (Err (failure.Memory)) same own h = tt
+  some-set c (Err (failure.Fault error)) same own h =
       rw (once, own)
       (subst (λ (k : Customs). IsFirst (file_faults (environment seen k t) t) (fault_view error))
       same h)

@@ -1,6 +1,5 @@
 -- What the steps of loading do to a run at a stack of frames.
 use Rattle.protobuf_parse_options.specs.WithoutOptions.{bare_file}
-use Rattle.std.specs.Prelude.{not, Bool}
 use Rattle.std.proofs.Common.{◌≡◌, ℕ, suc, ◌+◌, ◌-◌, ◌<◌, ◌≤◌, false, inl, inr, List, [], ◌∷◌, ◌++◌}
 use Rattle.std.proofs.Common.{Option, Some, None, Result, Ok, Err, refl, sym, ◌∙◌, ap, subst}
 use Rattle.std.proofs.Common.{append_assoc, append-nil, length, max, arith, take, slice_get}
@@ -24,9 +23,10 @@ use Rattle.protobuf_parse_run.specs.Walks.{Asked, the_resolver, Event, load, ela
 use Rattle.protobuf_parse_run.specs.Walks.{Trees, import_paths, walks_joined, import_statements}
 use Rattle.protobuf_parse_run.specs.Walks.{walk}
 use Rattle.protobuf_parse_run.proofs.ToldFirst.{told-failing}
-use Rattle.protobuf_parse_run.specs.Run.{Files, IsToldAt, StandsInElab, ending_faults}
+use Rattle.protobuf_parse_run.specs.Run.{faults_at}
+use Rattle.protobuf_parse_run.specs.Run.{Files, IsToldAt, StandsInElab}
 use Rattle.protobuf_parse_run.specs.Run.{environment_of}
-use Rattle.protobuf_parse_run.specs.Run.{first_read, is_nothing, own_faults, report_at}
+use Rattle.protobuf_parse_run.specs.Run.{first_read}
 use Rattle.protobuf_parse_run.specs.Run.{origin_given, Legal}
 use Rattle.protobuf_parse_run.specs.PlainRuns.{plain_of}
 use Rattle.protobuf_parse_run.specs.Loading.{AreKnown, FilesAreNumbered, LoadedEntry, GoesOn, Good}
@@ -44,7 +44,6 @@ use Rattle.protobuf_parse_run.proofs.Steps.{breaks-now, get-grown, good-elab, ha
 use Rattle.protobuf_parse_run.proofs.Steps.{stops-more}
 use Rattle.protobuf_parse_run.proofs.Leaving.{stands-failing}
 use Rattle.protobuf_parse_run.proofs.Reordering.{packages-read}
-use Rattle.protobuf_parse_run.proofs.Faulty.{flags-made}
 use Rattle.protobuf_parse_run.proofs.Elaborating.{IsNext, agrees-made, made-alike, settled-in}
 use Rattle.protobuf_parse_run.proofs.Counting.{after-load, count-grows, statements-append}
 use Rattle.protobuf_parse_run.proofs.Stacks.{chain_of-push, done-import, done-other, frames-into}
@@ -151,11 +150,11 @@ held-joined files now log old new placed i q h at named s j =
       first = rw j.path_is h.first;
     }
 
-module _ (gathers : Bool) (legal : Legal) (files : Files) (kept events : List Event) (i : Text)
+module _ (legal : Legal) (files : Files) (kept events : List Event) (i : Text)
     (start : ℕ) where
   abbrev pub Running : ℕ → List LoadFrame → LoadFrame → List LoadedEntry → List ReadEntry → Type 0
   Running meets stack top loaded log =
-      IsRunning gathers legal files kept events i start meets stack top loaded log
+      IsRunning legal files kept events i start meets stack top loaded log
 
   -- a statement that is no import
   pub running-other : (stack : List LoadFrame) (old new : LoadFrame) (x : FileStatement) (meets : ℕ)
@@ -194,8 +193,8 @@ module _ (gathers : Bool) (legal : Legal) (files : Files) (kept events : List Ev
       (r : Running meets stack old loaded log) → inner ≡ chain_of [] stack ++ frame_path old ∷ []
       → slice_get old.tree.statements.items old.next ≡ Some (file_statement.Import im)
       → more ≡ meets + 1 → Grows log after
-      → (Good gathers legal files r.now loaded log inner
-      → Good gathers legal files r.now loaded after inner
+      → (Good legal files r.now loaded log inner
+      → Good legal files r.now loaded after inner
       × IsSame files r.now i the_resolver inner (path_buf_text im.path) placed)
       → Joined old placed new → Running more stack new loaded after
   running-known stack old new placed im meets more inner loaded log after r same at met grows gives
@@ -231,8 +230,8 @@ module _ (gathers : Bool) (legal : Legal) (files : Files) (kept events : List Ev
       (r : Running meets stack old loaded log) → inner ≡ chain_of [] stack ++ frame_path old ∷ []
       → slice_get old.tree.statements.items old.next ≡ Some (file_statement.Import im)
       → more ≡ meets + 1 → Grows log after
-      → (Good gathers legal files r.now loaded log inner
-      → IsNew gathers legal files r.now the_resolver inner
+      → (Good legal files r.now loaded log inner
+      → IsNew legal files r.now the_resolver inner
       (path_buf_text im.path) loaded after frame)
       → IsOpened inner (path_buf_text im.path) loaded log outer after frame
       → Running more (stack ++ old ∷ []) frame loaded after
@@ -280,11 +279,11 @@ module _ (gathers : Bool) (legal : Legal) (files : Files) (kept events : List Ev
       (inner : List Text) (loaded : List LoadedEntry) (log after : List ReadEntry) (f : RunFault)
       (r : Running meets stack old loaded log) → inner ≡ chain_of [] stack ++ frame_path old ∷ []
       → slice_get old.tree.statements.items old.next ≡ Some (file_statement.Import im)
-      → (Good gathers legal files r.now loaded log inner
-      → Stops gathers legal files
+      → (Good legal files r.now loaded log inner
+      → Stops legal files
       (keep r.now
       (walk files.trees i the_resolver (100 - length inner) inner (path_buf_text im.path))) after f)
-      → Stops gathers legal files events after f
+      → Stops legal files events after f
   running-stops stack old im meets inner loaded log after f r same at stops =
       let c : List Text = chain_of [] stack in
       let q : Text = path_buf_text im.path in
@@ -298,7 +297,7 @@ module _ (gathers : Bool) (legal : Legal) (files : Files) (kept events : List Ev
       (todo files.trees i [] stack) same l)
       ∙ keep-append r.now (walk files.trees i the_resolver (100 - length inner) inner q) rest)
       in
-      rw e (stops-more gathers legal files
+      rw e (stops-more legal files
       (keep r.now (walk files.trees i the_resolver (100 - length inner) inner q)) rest after f
       (stops (rw same r.good)))
 
@@ -306,11 +305,11 @@ module _ (gathers : Bool) (legal : Legal) (files : Files) (kept events : List Ev
   pub running-breaks : (stack : List LoadFrame) (top : LoadFrame) (meets : ℕ)
       (loaded : List LoadedEntry)
       (log : List ReadEntry) (f : RunFault) → Running meets stack top loaded log → f ≡ fault.Memory
-      → Stops gathers legal files events log f
+      → Stops legal files events log f
   running-breaks stack top meets loaded log f r m =
       let rest : List Event = owed files.trees i (chain_of [] stack) (frame_path top) (left_in top)
       ++ todo files.trees i [] stack in
-      rw r.is (breaks-now gathers legal files r.now rest loaded log
+      rw r.is (breaks-now legal files r.now rest loaded log
       (chain_of [] stack ++ frame_path top ∷ []) f r.good m)
 
   -- or after an import that is loaded already
@@ -318,15 +317,15 @@ module _ (gathers : Bool) (legal : Legal) (files : Files) (kept events : List Ev
       (meets : ℕ) (inner : List Text) (loaded : List LoadedEntry) (log after : List ReadEntry)
       (f : RunFault) (r : Running meets stack old loaded log)
       → inner ≡ chain_of [] stack ++ frame_path old ∷ []
-      → (Good gathers legal files r.now loaded log inner
-      → Good gathers legal files r.now loaded after inner
+      → (Good legal files r.now loaded log inner
+      → Good legal files r.now loaded after inner
       × IsSame files r.now i the_resolver inner q placed) → f ≡ fault.Memory
-      → Stops gathers legal files events after f
+      → Stops legal files events after f
   known-breaks stack old placed q meets inner loaded log after f r same gives m =
       let k = gives (rw same r.good) in
       let rest : List Event = owed files.trees i (chain_of [] stack) (frame_path old) (left_in old)
       ++ todo files.trees i [] stack in
-      rw r.is (breaks-now gathers legal files r.now rest loaded after inner f k.0 m)
+      rw r.is (breaks-now legal files r.now rest loaded after inner f k.0 m)
 
   -- no more was met than there is to meet
   pub counted-now : (stack : List LoadFrame) (top : LoadFrame) (meets : ℕ)
@@ -374,9 +373,9 @@ module _ (gathers : Bool) (legal : Legal) (files : Files) (kept events : List Ev
       → AreKnown loaded tables log → IsTaken loaded log top → file_at (frame_path top) loaded ≡ None
       → among (frame_path top) (chain_of [] stack) ≡ false
       → length top.tree.statements.items ≤ top.next → top.height < 100
-      → ElaboratesOver gathers (frame_path top) (file_syntax top.tree)
+      → ElaboratesOver (frame_path top) (file_syntax top.tree)
       (top.height + 1) top.read top.below.items top.public.items log loaded later after res
-      → Leaves gathers legal files (r.now ++ elab (frame_path top) ∷ [])
+      → Leaves legal files (r.now ++ elab (frame_path top) ∷ [])
       (path_shape files.trees (frame_path top)) later log (chain_of [] stack) res
   running-closes stack top meets loaded later tables after log res r table full go known taken none
       off le low over =
@@ -384,7 +383,7 @@ module _ (gathers : Bool) (legal : Legal) (files : Files) (kept events : List Ev
       (import_paths (file_syntax top.tree)) =
       subst (λ (z : List Text). FilesAreNumbered (named_trees loaded) top.below.items z)
       (done-all top le) taken.numbered in
-      let agrees = agrees-made gathers files log loaded r.good.made in
+      let agrees = agrees-made files log loaded r.good.made in
       let next : IsNext files loaded tables log (frame_path top)
       (file_syntax top.tree) top.below.items =
       record {
@@ -392,15 +391,15 @@ module _ (gathers : Bool) (legal : Legal) (files : Files) (kept events : List Ev
         packages = packages-read files table full go;
         known = known;
         agrees = agrees;
-        alike = made-alike gathers files log loaded r.good.made;
+        alike = made-alike files log loaded r.good.made;
         is = r.held.is;
         none = none;
         numbered = numbered;
       } in
-      let elaborates = settled-in gathers files loaded later tables after (frame_path top)
+      let elaborates = settled-in files loaded later tables after (frame_path top)
       (file_syntax top.tree)
       (top.height + 1) top.read top.below.items top.public.items log res next
-      (flags-made gathers files log loaded r.good.made) over in
+      over in
       ends res elaborates
     where
       p : Text
@@ -410,22 +409,18 @@ module _ (gathers : Bool) (legal : Legal) (files : Files) (kept events : List Ev
       t = file_syntax top.tree
 
       ends : (res : Result LoadedAs RunFault)
-          → ElaboratesFile gathers files p t (top.height + 1) top.read log loaded later res
-          → Leaves gathers legal files (r.now ++ elab p ∷ []) (path_shape files.trees p) later log
+          → ElaboratesFile files p t (top.height + 1) top.read log loaded later res
+          → Leaves legal files (r.now ++ elab p ∷ []) (path_shape files.trees p) later log
           (chain_of [] stack) res
       ends (Ok placed) elaborates =
-          let d = subst (λ (k : ℕ). IsAdded gathers files p t k top.read loaded later placed)
+          let d = subst (λ (k : ℕ). IsAdded files p t k top.read loaded later placed)
           (add-one top.height) (elaborates none) in
-          let m : IsLoaded gathers files log p d.file = record {
+          let m : IsLoaded files log p d.file = record {
             low = rw d.height_is (omega (arith, low));
             is = r.held.is ∙ ap Some (sym d.tree_is);
-            descriptor = λ runs. d.descriptor runs
+            descriptor = d.descriptor
                 ∙ ap (λ u. file_of (environment_of files p u) p u) (sym d.tree_is);
             alike = d.alike ∙ ap (λ u. bare_file (plain_of files p u)) (sym d.tree_is);
-            faulty = d.faulty
-                ∙ ap (λ (o : Option FileSyntax). not (is_nothing (own_faults files p o)))
-                (sym r.held.is);
-            told = d.told ∙ ap (report_at files p) (sym d.tree_is);
             entry = r.held.entry;
             read = rw d.read_is r.held.found;
             named = r.held.named;
@@ -434,7 +429,7 @@ module _ (gathers : Bool) (legal : Legal) (files : Files) (kept events : List Ev
           let s : Settled r.now top.height (imports_shape files.trees (import_paths t)) =
           subst (λ (z : List Text). Settled r.now top.height (imports_shape files.trees z))
           (done-all top le) r.held.settled in
-          let g = good-elab gathers legal files r.now loaded log (chain_of [] stack) p t top.height
+          let g = good-elab legal files r.now loaded log (chain_of [] stack) p t top.height
           (d.key, d.file) r.good off r.held.load r.held.is d.faultless s d.named d.height_is m
           in
           rw (d.entries, d.placed_is) g
@@ -442,17 +437,17 @@ module _ (gathers : Bool) (legal : Legal) (files : Files) (kept events : List Ev
           elim (elaborates r.held.entry r.held.found r.held.named) [
             | inl stands ↦
                 let here : StandsInElab (origin_given p (first_read p files.reads))
-                (IsToldAt gathers files p (files.trees p)) f =
+                (IsToldAt files p (files.trees p)) f =
                 subst (λ (o : Option ReadOutcome). StandsInElab (origin_given p o)
-                (IsToldAt gathers files p (files.trees p)) f) (sym r.held.first) (subst
+                (IsToldAt files p (files.trees p)) f) (sym r.held.first) (subst
                 (λ (o : Option FileSyntax). StandsInElab
                 (origin_given p (Some r.held.entry.outcome))
-                (IsToldAt gathers files p o) f) (sym r.held.is) stands) in
-                inl (halts-at gathers legal files r.now loaded log (chain_of [] stack ++ p ∷ []) _
+                (IsToldAt files p o) f) (sym r.held.is) stands) in
+                inl (halts-at legal files r.now loaded log (chain_of [] stack ++ p ∷ []) _
                 (elab p) f r.good
-                (stands-failing _ (IsToldAt gathers files p (files.trees p))
-                (ending_faults gathers files p (files.trees p)) f
-                (λ g told. told-failing gathers files p (files.trees p) g told) here)
+                (stands-failing _ (IsToldAt files p (files.trees p))
+                (faults_at files p (files.trees p)) f
+                (λ g told. told-failing files p (files.trees p) g told) here)
                 refl refl here)
             | inr memory ↦ inr
                 (record {
@@ -470,7 +465,7 @@ module _ (gathers : Bool) (legal : Legal) (files : Files) (kept events : List Ev
       (im : Import) (meets : ℕ) (loaded later : List LoadedEntry) (log : List ReadEntry)
       (r : Running meets full top loaded log) → full ≡ stack ++ old ∷ []
       → length top.tree.statements.items ≤ top.next
-      → Leaves gathers legal files (r.now ++ elab (frame_path top) ∷ [])
+      → Leaves legal files (r.now ++ elab (frame_path top) ∷ [])
       (path_shape files.trees (frame_path top)) later log (chain_of [] full) (Ok placed)
       → slice_get old.tree.statements.items old.next ≡ Some (file_statement.Import im)
       → path_buf_text im.path ≡ frame_path top → Joined old placed new
@@ -507,12 +502,12 @@ module _ (gathers : Bool) (legal : Legal) (files : Files) (kept events : List Ev
   pub closed-breaks : (stack : List LoadFrame) (top : LoadFrame) (placed : LoadedAs) (meets : ℕ)
       (loaded later : List LoadedEntry) (log : List ReadEntry) (f : RunFault)
       (r : Running meets stack top loaded log) → length top.tree.statements.items ≤ top.next
-      → Leaves gathers legal files (r.now ++ elab (frame_path top) ∷ [])
+      → Leaves legal files (r.now ++ elab (frame_path top) ∷ [])
       (path_shape files.trees (frame_path top)) later log (chain_of [] stack) (Ok placed)
-      → f ≡ fault.Memory → Stops gathers legal files events log f
+      → f ≡ fault.Memory → Stops legal files events log f
   closed-breaks stack top placed meets loaded later log f r le k m =
       rw (elab-next stack top meets loaded log r le)
-      (breaks-now gathers legal files (r.now ++ elab (frame_path top) ∷ [])
+      (breaks-now legal files (r.now ++ elab (frame_path top) ∷ [])
       (todo files.trees i [] stack) later log (chain_of [] stack) f k.0 m)
 
   -- it is refused
@@ -520,11 +515,11 @@ module _ (gathers : Bool) (legal : Legal) (files : Files) (kept events : List Ev
       (loaded : List LoadedEntry)
       (log : List ReadEntry) (f : RunFault) (r : Running meets stack top loaded log)
       → length top.tree.statements.items ≤ top.next
-      → Stops gathers legal files (r.now ++ elab (frame_path top) ∷ []) log f
-      → Stops gathers legal files events log f
+      → Stops legal files (r.now ++ elab (frame_path top) ∷ []) log f
+      → Stops legal files events log f
   running-refused stack top meets loaded log f r le h =
       rw (elab-next stack top meets loaded log r le)
-      (stops-more gathers legal files (r.now ++ elab (frame_path top) ∷ [])
+      (stops-more legal files (r.now ++ elab (frame_path top) ∷ [])
       (todo files.trees i [] stack) log f h)
 
   -- the lowest file is the input
@@ -532,15 +527,15 @@ module _ (gathers : Bool) (legal : Legal) (files : Files) (kept events : List Ev
       (loaded later : List LoadedEntry) (log : List ReadEntry)
       (r : Running meets stack top loaded log)
       → stack ≡ [] → length top.tree.statements.items ≤ top.next
-      → Leaves gathers legal files (r.now ++ elab (frame_path top) ∷ [])
+      → Leaves legal files (r.now ++ elab (frame_path top) ∷ [])
       (path_shape files.trees (frame_path top)) later log (chain_of [] stack) (Ok placed)
-      → Good gathers legal files events later log []
+      → Good legal files events later log []
   running-end stack top placed meets loaded later log r empty le k =
       let now : List Event = r.now ++ elab (frame_path top) ∷ [] in
       let e : events ≡ now = elab-next stack top meets loaded log r le
       ∙ ap (λ z. keep now (todo files.trees i [] z)) empty in
-      let g : Good gathers legal files now later log [] =
-      subst (λ (z : List Text). Good gathers legal files now later log z)
+      let g : Good legal files now later log [] =
+      subst (λ (z : List Text). Good legal files now later log z)
       (ap (chain_of []) empty) k.0 in
       rw e g
 
@@ -555,15 +550,15 @@ module _ (gathers : Bool) (legal : Legal) (files : Files) (kept events : List Ev
       omega (arith, a, b, e, r.count)
 
 -- the first file
-pub running-start : (gathers : Bool) (legal : Legal) (files : Files) (kept : List Event) (i : Text)
+pub running-start : (legal : Legal) (files : Files) (kept : List Event) (i : Text)
     (a : Asked)
     (p : Text) (start meets : ℕ) (outer : List Text) (frame : LoadFrame) (loaded : List LoadedEntry)
     (log after : List ReadEntry) → meets ≡ start + 1
-    → IsNew gathers legal files kept a [] p loaded after frame
+    → IsNew legal files kept a [] p loaded after frame
     → IsOpened [] p loaded log outer after frame
-    → IsRunning gathers legal files kept (keep kept (walk files.trees i a 100 [] p)) i start meets
+    → IsRunning legal files kept (keep kept (walk files.trees i a 100 [] p)) i start meets
     [] frame loaded after
-running-start gathers legal files kept i a p start meets outer frame loaded log after met k o =
+running-start legal files kept i a p start meets outer frame loaded log after met k o =
     let is : files.trees p ≡ Some (file_syntax frame.tree) =
     subst (λ (z : Text). files.trees z ≡ Some (file_syntax frame.tree)) o.path_is k.held.is in
     let loads = after-load files.trees kept a p (file_syntax frame.tree) is in

@@ -1,5 +1,4 @@
 -- The state of a run, step by step.
-use Rattle.std.specs.Prelude.{Bool}
 use Rattle.std.proofs.Common.{◌≡◌, ℕ, zero, suc, ◌-◌, ◌<◌, ◌≤◌, true, false, ◌⊎◌, inl, inr, List}
 use Rattle.std.proofs.Common.{[], ◌∷◌, ◌++◌, Option, Some, None, refl, sym, ◌∙◌, ap, subst}
 use Rattle.std.proofs.Common.{append_assoc, append-nil, length, arith}
@@ -19,8 +18,9 @@ use Rattle.protobuf_parse_run.specs.declared.log.ReadEntry.{ReadEntry}
 use Rattle.protobuf_parse_run.specs.declared.log.ReadOutcome.{ReadOutcome}
 use Rattle.protobuf_parse_run.specs.Walks.{Asked, the_resolver, Event, cycle, long, load, elab, has}
 use Rattle.protobuf_parse_run.specs.Walks.{keep, among, import_paths, walk, FileRead, reads_in}
-use Rattle.protobuf_parse_run.specs.Run.{Files, HasTrees, ending_faults, IsTree, IsTheTree}
-use Rattle.protobuf_parse_run.specs.Run.{text_given, first_read, ends, AreAnswered, StandsThere}
+use Rattle.protobuf_parse_run.specs.Run.{StandsAtEvent, fails, faults_at}
+use Rattle.protobuf_parse_run.specs.Run.{Files, HasTrees, IsTree, IsTheTree}
+use Rattle.protobuf_parse_run.specs.Run.{text_given, first_read, AreAnswered}
 use Rattle.protobuf_parse_run.specs.Run.{Legal}
 use Rattle.protobuf_parse_run.specs.Loading.{LoadedEntry, paths_of, file_at, read_paths, Grows}
 use Rattle.protobuf_parse_run.specs.Loading.{Settled, path_shape, imports_shape, IsLoaded, Good}
@@ -133,17 +133,15 @@ pub has-asked : (a : Asked) (p : Text) (xs : List Event)
     → has (load a p) xs ≡ has (load the_resolver p) xs
 has-asked a p xs = has-like (load the_resolver p) (load a p) xs (text-same p)
 
-module _ (gathers : Bool) (legal : Legal) (files : Files) where
+module _ (legal : Legal) (files : Files) where
   pub loaded-more : (log : List ReadEntry) (e : ReadEntry) (x : LoadedEntry)
-      → IsLoaded gathers files log (string_bytes x.0) x.1
-      → IsLoaded gathers files (log ++ e ∷ []) (string_bytes x.0) x.1
+      → IsLoaded files log (string_bytes x.0) x.1
+      → IsLoaded files (log ++ e ∷ []) (string_bytes x.0) x.1
   loaded-more log e x l = record {
     low = l.low;
     is = l.is;
     descriptor = l.descriptor;
     alike = l.alike;
-    faulty = l.faulty;
-    told = l.told;
     entry = l.entry;
     read = get-more log (e ∷ []) x.1.read l.entry l.read;
     named = l.named;
@@ -152,9 +150,9 @@ module _ (gathers : Bool) (legal : Legal) (files : Files) where
 
   pub loaded-at : (p : Text) (e : LoadedFile) (log : List ReadEntry) (loaded : List LoadedEntry)
       → file_at p loaded ≡ Some e
-      → AllByRecursion (λ (x : LoadedEntry). IsLoaded gathers files log
+      → AllByRecursion (λ (x : LoadedEntry). IsLoaded files log
       (string_bytes x.0) x.1) loaded
-      → IsLoaded gathers files log p e
+      → IsLoaded files log p e
   loaded-at p e log [] h a = absurd (none_some e h)
   loaded-at p e log (x ∷ loaded) h a =
       elim (bool_cases (bytes_eq p (string_bytes x.0))) [
@@ -166,7 +164,7 @@ module _ (gathers : Bool) (legal : Legal) (files : Files) where
   -- a file that is neither on the chain nor loaded was not read
   unread : (kept : List Event) (loaded : List LoadedEntry) (log : List ReadEntry)
       (chain : List Text)
-      (p : Text) → Good gathers legal files kept loaded log chain → among p chain ≡ false
+      (p : Text) → Good legal files kept loaded log chain → among p chain ≡ false
       → file_at p loaded ≡ None → (has (load the_resolver p) kept ≡ false)
       × (has (elab p) kept ≡ false) × (among p (read_paths log) ≡ false)
   unread kept loaded log chain p g off none =
@@ -186,17 +184,17 @@ module _ (gathers : Bool) (legal : Legal) (files : Files) where
 
   -- a file that is neither on the chain nor loaded is read
   pub fresh-load : (kept : List Event) (loaded : List LoadedEntry) (log : List ReadEntry)
-      (chain : List Text) (a : Asked) (p : Text) → Good gathers legal files kept loaded log chain
+      (chain : List Text) (a : Asked) (p : Text) → Good legal files kept loaded log chain
       → among p chain ≡ false → file_at p loaded ≡ None → has (load a p) kept ≡ false
   fresh-load kept loaded log chain a p g off none = has-asked a p kept
       ∙ (unread kept loaded log chain p g off none).0
 
   pub good-load : (kept : List Event) (loaded : List LoadedEntry) (log : List ReadEntry)
       (chain : List Text) (a : Asked) (p : Text) (e : ReadEntry) (t : FileSyntax)
-      → Good gathers legal files kept loaded log chain → among p chain ≡ false → file_at p loaded
+      → Good legal files kept loaded log chain → among p chain ≡ false → file_at p loaded
       ≡ None
       → path_buf_text e.path ≡ p → legal a p e.outcome → files.trees p ≡ Some t
-      → Good gathers legal files (kept ++ load a p ∷ []) loaded (log ++ e ∷ []) (chain ++ p ∷ [])
+      → Good legal files (kept ++ load a p ∷ []) loaded (log ++ e ∷ []) (chain ++ p ∷ [])
   good-load kept loaded log chain a p e t g off none named ok is =
       let u = unread kept loaded log chain p g off none in
       let r : List Event = kept ++ load a p ∷ [] in
@@ -205,7 +203,7 @@ module _ (gathers : Bool) (legal : Legal) (files : Files) where
             (answers-more legal (reads_in kept) log
             (record { asked = a; path = p }) e g.answers named ok);
         elabs = rw (elab_paths-append kept (load a p ∷ []), append-nil) g.elabs;
-        clean = find-none (ends gathers files) kept (load a p ∷ []) g.clean (rw is refl);
+        clean = find-none (fails files) kept (load a p ∷ []) g.clean (rw is refl);
         settled = λ q f w. settled-more kept r f.height _ (g.settled q f w)
             (λ x v. has-left x kept (load a p ∷ []) v);
         made = all-into _ _ (loaded-more log e) loaded g.made;
@@ -234,12 +232,12 @@ module _ (gathers : Bool) (legal : Legal) (files : Files) where
   -- a file whose imports are loaded is elaborated
   pub good-elab : (kept : List Event) (loaded : List LoadedEntry) (log : List ReadEntry)
       (chain : List Text) (p : Text) (t : FileSyntax) (h : ℕ) (n : LoadedEntry)
-      → Good gathers legal files kept loaded log (chain ++ p ∷ []) → among p chain ≡ false
+      → Good legal files kept loaded log (chain ++ p ∷ []) → among p chain ≡ false
       → has (load the_resolver p) kept ≡ true → files.trees p ≡ Some t
-      → ending_faults gathers files p (Some t) ≡ []
+      → faults_at files p (Some t) ≡ []
       → Settled kept h (imports_shape files.trees (import_paths t)) → string_bytes n.0 ≡ p
-      → n.1.height ≡ suc h → IsLoaded gathers files log p n.1
-      → Good gathers legal files (kept ++ elab p ∷ []) (loaded ++ n ∷ []) log chain
+      → n.1.height ≡ suc h → IsLoaded files log p n.1
+      → Good legal files (kept ++ elab p ∷ []) (loaded ++ n ∷ []) log chain
       × Settled (kept ++ elab p ∷ []) (suc h) (path_shape files.trees p)
   good-elab kept loaded log chain p t h n g off read is faultless s named tall m =
       let e : has (elab p) kept ≡ false = g.apart p (among-last p chain) in
@@ -253,7 +251,7 @@ module _ (gathers : Bool) (legal : Legal) (files : Files) where
             g.elabs,
             named,
           ) refl;
-          clean = find-none (ends gathers files) kept (elab p ∷ []) g.clean
+          clean = find-none (fails files) kept (elab p ∷ []) g.clean
               (rw (is, faultless) refl);
           settled = λ q x w. elim (entry-in q n x loaded w) [
             | inl v ↦ settled-more kept (kept ++ elab p ∷ []) x.height _ (g.settled q x v)
@@ -282,9 +280,9 @@ module _ (gathers : Bool) (legal : Legal) (files : Files) where
 
   -- memory runs out
   pub breaks-now : (kept more : List Event) (loaded : List LoadedEntry) (log : List ReadEntry)
-      (chain : List Text) (f : RunFault) → Good gathers legal files kept loaded log chain → f
+      (chain : List Text) (f : RunFault) → Good legal files kept loaded log chain → f
       ≡ fault.Memory
-      → Stops gathers legal files (keep kept more) log f
+      → Stops legal files (keep kept more) log f
   breaks-now kept more loaded log chain f g m =
       let r = keep-extends kept more in
       inr (record {
@@ -299,10 +297,10 @@ module _ (gathers : Bool) (legal : Legal) (files : Files) where
 
   pub halts-at : (kept : List Event) (loaded : List LoadedEntry) (log : List ReadEntry)
       (chain : List Text) (events : List Event) (e : Event) (f : RunFault)
-      → Good gathers legal files kept loaded log chain → ends gathers files e ≡ true
+      → Good legal files kept loaded log chain → fails files e ≡ true
       → reads_in (e ∷ []) ≡ []
-      → events ≡ kept ++ e ∷ [] → StandsThere gathers files e f
-      → Halts gathers legal files events log f
+      → events ≡ kept ++ e ∷ [] → StandsAtEvent files e f
+      → Halts legal files events log f
   halts-at kept loaded log chain events e f g bad n is s = record {
     before = kept;
     event = e;
@@ -316,36 +314,36 @@ module _ (gathers : Bool) (legal : Legal) (files : Files) where
 
   pub stops-cycle : (kept : List Event) (loaded : List LoadedEntry) (log : List ReadEntry)
       (chain : List Text) (i : Text) (a : Asked) (room : ℕ) (p : Text) (f : RunFault)
-      → Good gathers legal files kept loaded log chain → among p chain ≡ true
-      → OrMemory f (StandsThere gathers files (cycle p) f)
-      → Stops gathers legal files (keep kept (walk files.trees i a room chain p)) log f
+      → Good legal files kept loaded log chain → among p chain ≡ true
+      → OrMemory f (StandsAtEvent files (cycle p) f)
+      → Stops legal files (keep kept (walk files.trees i a room chain p)) log f
   stops-cycle kept loaded log chain i a room p f g on (inl s) =
       inl (halts-at kept loaded log chain _ (cycle p) f g refl refl
       (rw (walk-on_chain files.trees i a room chain p on)
       (keep-fresh kept [] (cycle p)
-      (clean-has (ends gathers files) kept (cycle p) (cycle-same p) g.clean refl))) s)
+      (clean-has (fails files) kept (cycle p) (cycle-same p) g.clean refl))) s)
   stops-cycle kept loaded log chain i a room p f g on (inr m) =
       breaks-now kept (walk files.trees i a room chain p) loaded log chain f g m
 
   pub stops-no_room : (kept : List Event) (loaded : List LoadedEntry) (log : List ReadEntry)
       (chain : List Text) (i : Text) (a : Asked) (p : Text) (f : RunFault)
-      → Good gathers legal files kept loaded log chain → among p chain ≡ false
-      → OrMemory f (StandsThere gathers files (long i) f)
-      → Stops gathers legal files (keep kept (walk files.trees i a 0 chain p)) log f
+      → Good legal files kept loaded log chain → among p chain ≡ false
+      → OrMemory f (StandsAtEvent files (long i) f)
+      → Stops legal files (keep kept (walk files.trees i a 0 chain p)) log f
   stops-no_room kept loaded log chain i a p f g off (inl s) =
       inl (halts-at kept loaded log chain _ (long i) f g refl refl
       (rw (walk-no_room files.trees i a chain p off)
       (keep-fresh kept [] (long i)
-      (clean-has (ends gathers files) kept (long i) (long-same i) g.clean refl))) s)
+      (clean-has (fails files) kept (long i) (long-same i) g.clean refl))) s)
   stops-no_room kept loaded log chain i a p f g off (inr m) =
       breaks-now kept (walk files.trees i a 0 chain p) loaded log chain f g m
 
   -- a loaded file that is too tall for the chain
   pub stops-tall : (kept : List Event) (loaded : List LoadedEntry) (log : List ReadEntry)
       (chain : List Text) (i : Text) (a : Asked) (room : ℕ) (p : Text) (e : LoadedFile)
-      (f : RunFault) → Good gathers legal files kept loaded log chain → file_at p loaded ≡ Some e
-      → room < e.height → OrMemory f (StandsThere gathers files (long i) f)
-      → Stops gathers legal files (keep kept (walk files.trees i a room chain p)) log f
+      (f : RunFault) → Good legal files kept loaded log chain → file_at p loaded ≡ Some e
+      → room < e.height → OrMemory f (StandsAtEvent files (long i) f)
+      → Stops legal files (keep kept (walk files.trees i a room chain p)) log f
   stops-tall kept loaded log chain i a room p e f g w lt (inl stands) =
       let s = g.settled p e w in
       let apart = Apart-within s.before kept chain s.within g.apart in
@@ -353,7 +351,7 @@ module _ (gathers : Bool) (legal : Legal) (files : Files) where
       ∙ lt_yes room e.height lt in
       inl (halts-at kept loaded log chain _ (long i) f g refl refl
       (keep-but_long kept (walk files.trees i a room chain p) i
-      (clean-has (ends gathers files) kept (long i) (long-same i) g.clean refl) t
+      (clean-has (fails files) kept (long i) (long-same i) g.clean refl) t
       (s.only i a room chain apart)) stands)
   stops-tall kept loaded log chain i a room p e f g w lt (inr m) =
       breaks-now kept (walk files.trees i a room chain p) loaded log chain f g m
@@ -361,7 +359,7 @@ module _ (gathers : Bool) (legal : Legal) (files : Files) where
   -- a loaded file that is not adds nothing
   pub loaded-again : (kept : List Event) (loaded : List LoadedEntry) (log : List ReadEntry)
       (chain : List Text) (i : Text) (a : Asked) (room : ℕ) (p : Text) (e : LoadedFile)
-      → Good gathers legal files kept loaded log chain → file_at p loaded ≡ Some e → e.height ≤ room
+      → Good legal files kept loaded log chain → file_at p loaded ≡ Some e → e.height ≤ room
       → keep kept (walk files.trees i a room chain p) ≡ kept
   loaded-again kept loaded log chain i a room p e g w le =
       let s = g.settled p e w in
@@ -378,10 +376,10 @@ module _ (gathers : Bool) (legal : Legal) (files : Files) where
 
   pub halts-load : (kept : List Event) (loaded : List LoadedEntry) (log : List ReadEntry)
       (chain : List Text) (i : Text) (a : Asked) (room : ℕ) (p : Text) (e : ReadEntry)
-      (f : RunFault) → Good gathers legal files kept loaded log chain → among p chain ≡ false
+      (f : RunFault) → Good legal files kept loaded log chain → among p chain ≡ false
       → file_at p loaded ≡ None → path_buf_text e.path ≡ p → legal a p e.outcome
-      → files.trees p ≡ None → StandsThere gathers files (load a p) f
-      → Halts gathers legal files (keep kept (walk files.trees i a (suc room) chain p))
+      → files.trees p ≡ None → StandsAtEvent files (load a p) f
+      → Halts legal files (keep kept (walk files.trees i a (suc room) chain p))
       (log ++ e ∷ []) f
   halts-load kept loaded log chain i a room p e f g off none named ok is s =
       let u = unread kept loaded log chain p g off none in
@@ -402,14 +400,14 @@ module _ (gathers : Bool) (legal : Legal) (files : Files) where
 
   pub unread-first : (kept : List Event) (loaded : List LoadedEntry) (log : List ReadEntry)
       (chain : List Text) (p : Text) (e : ReadEntry)
-      → Good gathers legal files kept loaded log chain
+      → Good legal files kept loaded log chain
       → among p chain ≡ false → file_at p loaded ≡ None → path_buf_text e.path ≡ p
       → Grows (log ++ e ∷ []) files.reads → first_read p files.reads ≡ Some e.outcome
   unread-first kept loaded log chain p e g off none named grown =
       first-is log e p (unread kept loaded log chain p g off none).2 named grown
 
   pub stops-more : (events more : List Event) (log : List ReadEntry) (f : RunFault)
-      → Stops gathers legal files events log f → Stops gathers legal files (keep events more) log f
+      → Stops legal files events log f → Stops legal files (keep events more) log f
   stops-more events more log f (inl h) =
       let r = keep-extends events more in
       inl (record {
@@ -436,7 +434,7 @@ module _ (gathers : Bool) (legal : Legal) (files : Files) where
   -- the tree that was read is that of the path
   pub tree-read : (kept : List Event) (loaded : List LoadedEntry) (log : List ReadEntry)
       (chain : List Text) (p : Text) (e : ReadEntry) (t : Option FileSyntax)
-      → Good gathers legal files kept loaded log chain → among p chain ≡ false → file_at p loaded
+      → Good legal files kept loaded log chain → among p chain ≡ false → file_at p loaded
       ≡ None
       → HasTrees files.bundled files.reads files.trees → Grows (log ++ e ∷ []) files.reads
       → path_buf_text e.path ≡ p → IsTheTree (text_given files.bundled p (Some e.outcome)) t

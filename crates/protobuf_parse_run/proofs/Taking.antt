@@ -165,15 +165,15 @@ pub record IsClosed (old new : List LoadedEntry) (tables : Tables) (log : List R
   pub number : IsNumbered (named_trees new) placed.number path
   pub unloaded : AreUnloaded chain new
 
-pub closed-is : (gathers : Bool) (f : LoadFrame) (old new : List LoadedEntry)
+pub closed-is : (f : LoadFrame) (old new : List LoadedEntry)
     (before after : Tables)
     (log : List ReadEntry) (chain : List Text) (placed : LoadedAs) → AreKnown old before log
     → IsTaken old log f → AreUnloaded (chain ++ frame_path f ∷ []) old
     → among (frame_path f) chain ≡ false → length f.tree.statements.items ≤ f.next
-    → ElaboratesOver gathers (frame_path f) (file_syntax f.tree)
+    → ElaboratesOver (frame_path f) (file_syntax f.tree)
     (f.height + 1) f.read f.below.items f.public.items log old new after (Ok placed)
     → IsClosed old new after log chain (frame_path f) placed
-closed-is gathers f old new before after log chain placed known taken unloaded off le elaborates =
+closed-is f old new before after log chain placed known taken unloaded off le elaborates =
     let none = unloaded (frame_path f) (among-last (frame_path f) chain) in
     let a = elaborates none in
     let numbered : FilesAreNumbered (named_trees old) f.below.items
@@ -187,12 +187,12 @@ closed-is gathers f old new before after log chain placed known taken unloaded o
     let front : AreUnloaded chain old = λ p on. unloaded p
     (among-left p chain (frame_path f ∷ []) on) in
     record {
-      known = known-push gathers (frame_path f) (file_syntax f.tree)
+      known = known-push (frame_path f) (file_syntax f.tree)
           (f.height + 1) f.read f.below.items f.public.items old new before after log placed known
           taken.read numbered publicly none a;
       more = ((a.key, a.file) ∷ [], a.entries);
       number =
-          (met-push gathers (frame_path f) (file_syntax f.tree)
+          (met-push (frame_path f) (file_syntax f.tree)
           (f.height + 1) f.read f.below.items f.public.items old new before after log placed known
           taken.read numbered publicly none a).number;
       unloaded =

@@ -1,5 +1,5 @@
 -- What a run promises, from what its loading left.
-use Rattle.std.proofs.Common.{◌≡◌, Bool, true, false, ◌⊎◌, inl, inr, List, [], ◌∷◌, ◌++◌, map, Some}
+use Rattle.std.proofs.Common.{◌≡◌, Bool, true, ◌⊎◌, inl, inr, List, [], ◌∷◌, ◌++◌, map, Some}
 use Rattle.std.proofs.Common.{None, Result, Err, refl, sym, ◌∙◌, ap, append-nil, find, subst}
 use Rattle.std.specs.Prelude.{IfErr, string_bytes}
 use Rattle.std.specs.Global.{Vec}
@@ -48,14 +48,14 @@ until-after test (x ∷ xs) ys h =
 
 module _ (legal : Legal) (files : Files) (told : List Event) where
   are-descriptors : (log : List ReadEntry) (loaded : List LoadedEntry)
-      → AllByRecursion (λ (e : LoadedEntry). IsLoaded false files log (string_bytes e.0) e.1) loaded
+      → AllByRecursion (λ (e : LoadedEntry). IsLoaded files log (string_bytes e.0) e.1) loaded
       → AreDescriptors files (paths_of loaded) (map (λ (e : LoadedEntry). e.1.descriptor) loaded)
   are-descriptors log [] h = tt
   are-descriptors log (e ∷ loaded) h =
-      ((tree_in e.1, h.0.is, h.0.descriptor refl), are-descriptors log loaded h.1)
+      ((tree_in e.1, h.0.is, h.0.descriptor), are-descriptors log loaded h.1)
 
   pub accepted : (loaded : List LoadedEntry) (ds : List FileDescriptorProto)
-      → Good false legal files told loaded files.reads []
+      → Good legal files told loaded files.reads []
       → ds ≡ map (λ (e : LoadedEntry). e.1.descriptor) loaded → IsAccepted legal files told ds
   accepted loaded ds g is = record {
     none_fails = g.clean;
@@ -65,7 +65,7 @@ module _ (legal : Legal) (files : Files) (told : List Event) where
 
   -- memory runs out once all is loaded
   pub broken : (loaded : List LoadedEntry) (f : RunFault)
-      → Good false legal files told loaded files.reads []
+      → Good legal files told loaded files.reads []
       → f ≡ fault.Memory → IsBroken legal files told f
   broken loaded f g m = record {
     memory = m;
@@ -76,7 +76,7 @@ module _ (legal : Legal) (files : Files) (told : List Event) where
     reads = g.answers;
   }
 
-  pub stopped : (f : RunFault) → Stops false legal files told files.reads f
+  pub stopped : (f : RunFault) → Stops legal files told files.reads f
       → RunIsRefused legal files told f ⊎ IsBroken legal files told f
   stopped f (inl h) = inl (record {
     event = h.event;

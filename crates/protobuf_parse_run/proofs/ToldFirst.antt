@@ -1,5 +1,5 @@
 -- Which fault of a file is told, over files that are listed otherwise; that one stands there.
-use Rattle.std.proofs.Common.{◌≡◌, Bool, true, false, not, List, [], ◌∷◌, Option, Some, None, refl}
+use Rattle.std.proofs.Common.{◌≡◌, true, not, List, [], ◌∷◌, Option, Some, None, refl}
 use Rattle.std.proofs.Common.{sym, subst}
 use Rattle.protobuf_parse_syntax.specs.Trees.{FileSyntax}
 use Rattle.protobuf_parse_model.specs.Descriptors.{Text}
@@ -12,7 +12,7 @@ use Rattle.protobuf_parse_elaboration.specs.FileDescriptor.{file_faults}
 use Rattle.protobuf_parse_options.specs.CustomFaults.{custom_option_faults}
 use Rattle.protobuf_parse_run.specs.Loading.{TellsSuch}
 use Rattle.protobuf_parse_run.specs.Repeats.{is_nothing, repeat_faults}
-use Rattle.protobuf_parse_run.specs.Run.{Files, IsToldAt, IsToldOf, ending_faults, environment_of}
+use Rattle.protobuf_parse_run.specs.Run.{Files, IsToldAt, IsToldOf, environment_of, faults_at}
 use Rattle.protobuf_parse_run.specs.Run.{own_faults, plains_at}
 use Rattle.protobuf_parse_run.proofs.Spelling.{option-told}
 
@@ -53,18 +53,11 @@ failing [] [] known customs more f h = some-among customs f (more f refl (first-
 failing [] (o ∷ os) known customs more f h = refl
 failing (r ∷ rs) own known customs more f h = refl
 
-repeat-failing : (repeats : List Fault) (f : Fault) → IsToldOf repeats [] f
-    → not (is_nothing repeats) ≡ true
-repeat-failing [] f h = absurd h
-repeat-failing (r ∷ rs) f h = refl
-
--- where a fault is told one ends the run, or the check
-pub told-failing : (gathers : Bool) (files : Files) (p : Text) (o : Option FileSyntax) (f : Fault)
-    → IsToldAt gathers files p o f → not (is_nothing (ending_faults gathers files p o)) ≡ true
-told-failing gathers files p None f h = absurd h
-told-failing true files p (Some t) f h =
-    repeat-failing (repeat_faults files.trees files.reached p t) f h
-told-failing false files p (Some t) f h =
+-- where a fault is told one ends the run
+pub told-failing : (files : Files) (p : Text) (o : Option FileSyntax) (f : Fault)
+    → IsToldAt files p o f → not (is_nothing (faults_at files p o)) ≡ true
+told-failing files p None f h = absurd h
+told-failing files p (Some t) f h =
     failing (repeat_faults files.trees files.reached p t) (own_faults files p (Some t))
     (file_faults (environment_of files p t) t)
     (custom_option_faults (plains_at files (files.reached p)) (plains_at files (files.seen p)) t)

@@ -1,7 +1,7 @@
 -- No public clause rests on this file.
 -- What a call of the loader does, whatever is loaded: `old` is the loader before it, `new` the
 -- loader after it.
-use Rattle.std.specs.Prelude.{◌≡◌, ◌≤◌, ◌+◌, ◌*◌, ◌^◌, ◌++◌, ◌∷◌, ℕ, List, [], length, map, Bool}
+use Rattle.std.specs.Prelude.{◌≡◌, ◌≤◌, ◌+◌, ◌*◌, ◌^◌, ◌++◌, ◌∷◌, ℕ, List, [], length, map}
 use Rattle.std.specs.Prelude.{Option, Result, IfOk, OnOk}
 use Rattle.std.specs.Borrow.{Bor}
 use Rattle.protobuf_parse_syntax.specs.Trees.{file_syntax}
@@ -38,8 +38,8 @@ GoesTo may_answer may_read sources after old new result =
     (files : Files) (kept : List Event)
     → let legal = legal_by may_answer may_read sources in
     GoesOn files (rows sources.bundled.now) new.reads.items
-    → Good sources.gathers legal files kept old.loaded.entries old.reads.items []
-    → Goes sources.gathers legal files
+    → Good legal files kept old.loaded.entries old.reads.items []
+    → Goes legal files
     (after files.trees kept) new.loaded.entries new.reads.items result
 
 -- There it met one file more than the files that were loaded by it have import statements; no more
@@ -50,7 +50,7 @@ CountsTo may_answer may_read sources after old new result =
     (files : Files) (kept : List Event)
     → let legal = legal_by may_answer may_read sources in
     GoesOn files (rows sources.bundled.now) new.reads.items
-    → Good sources.gathers legal files kept old.loaded.entries old.reads.items []
+    → Good legal files kept old.loaded.entries old.reads.items []
     → IsCounted (new.meets + import_statements files.trees kept)
     (old.meets + 1 + import_statements files.trees (after files.trees kept)) result
 
@@ -61,7 +61,7 @@ abbrev pub GoesThrough : {R I : Type 0} → (R → MayResolve) → (I → MayRea
     → List Input → Loader → Result (Unit {0}) RunFault → Type 0
 GoesThrough may_answer may_read sources inputs new result =
     (files : Files) → GoesOn files (rows sources.bundled.now) new.reads.items
-    → Goes sources.gathers (legal_by may_answer may_read sources) files (events files.trees inputs)
+    → Goes (legal_by may_answer may_read sources) files (events files.trees inputs)
     new.loaded.entries new.reads.items result
 
 -- It met a file for each input and for each import statement of the loaded files; no more than
@@ -123,8 +123,8 @@ MeetsAt may_answer may_read sources input asked path old new result =
     → let legal = legal_by may_answer may_read sources in
     let chain = chain_texts old.chain.items in
     GoesOn files (rows sources.bundled.now) new.reads.items
-    → Good sources.gathers legal files kept old.loaded.entries old.reads.items chain
-    → Meets sources.gathers legal files kept input asked chain path old.loaded.entries
+    → Good legal files kept old.loaded.entries old.reads.items chain
+    → Meets legal files kept input asked chain path old.loaded.entries
     new.reads.items result
 
 -- What comes of meeting a file: nothing more is loaded, one meeting is counted, and at most one
@@ -143,7 +143,7 @@ pub record MeetsFile {R I : Type 0} (may_answer : R → MayResolve) (may_read : 
 
 -- What comes of elaborating the file of a frame: it leaves the end of the chain and is loaded, as
 -- what its tree becomes; or the fault stands there. Nothing is read and nothing is met.
-pub record ElaboratesFrame (gathers : Bool) (frame : LoadFrame) (old new : Loader)
+pub record ElaboratesFrame (frame : LoadFrame) (old new : Loader)
     (result : Result LoadedAs RunFault) : Type 0 where
   pub reads : new.reads ≡ old.reads
   pub meets : new.meets ≡ old.meets
@@ -151,7 +151,7 @@ pub record ElaboratesFrame (gathers : Bool) (frame : LoadFrame) (old new : Loade
       → chain_texts new.chain.items ≡ chain
   pub height : IfOk result (λ placed. placed.height ≡ frame.height + 1)
   pub elaborates : TableTells old.tables.names (trees_of (named_trees old.loaded.entries))
-      → ElaboratesOver gathers (frame_path frame) (file_syntax frame.tree)
+      → ElaboratesOver (frame_path frame) (file_syntax frame.tree)
       (frame.height + 1) frame.read
       frame.below.items frame.public.items old.reads.items old.loaded.entries new.loaded.entries
       new.tables result

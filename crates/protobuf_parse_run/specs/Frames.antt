@@ -104,7 +104,7 @@ pub record IsHeld (files : Files) (now : List Event) (log : List ReadEntry)
 
 -- A run that ends with these events, at a stack. It met files so often, and at its beginning so
 -- often.
-pub record IsRunning (gathers : Bool) (legal : Legal) (files : Files) (kept events : List Event)
+pub record IsRunning (legal : Legal) (files : Files) (kept events : List Event)
     (input : Text)
     (start meets : ℕ) (stack : List LoadFrame) (top : LoadFrame) (loaded : List LoadedEntry)
     (log : List ReadEntry) : Type 0 where
@@ -112,7 +112,7 @@ pub record IsRunning (gathers : Bool) (legal : Legal) (files : Files) (kept even
   pub is : events
       ≡ keep now (owed files.trees input (chain_of [] stack) (frame_path top) (left_in top)
       ++ todo files.trees input [] stack)
-  pub good : Good gathers legal files now loaded log (chain_of [] stack ++ frame_path top ∷ [])
+  pub good : Good legal files now loaded log (chain_of [] stack ++ frame_path top ∷ [])
   pub held : IsHeld files now log top
   pub below : AllByRecursion (IsHeld files now log) stack
   pub count : meets + import_statements files.trees kept + (length (left_in top) + to_meet stack)
@@ -196,23 +196,23 @@ pub record IsSame (files : Files) (kept : List Event) (input : Text) (asked : As
   pub settled : Settled kept placed.height (path_shape files.trees path)
 
 -- a file that was read now
-pub record IsNew (gathers : Bool) (legal : Legal) (files : Files) (kept : List Event)
+pub record IsNew (legal : Legal) (files : Files) (kept : List Event)
     (asked : Asked)
     (chain : List Text) (path : Text) (loaded : List LoadedEntry) (log : List ReadEntry)
     (f : LoadFrame) : Type 0 where
   pub fresh : has (load asked path) kept ≡ false
-  pub good : Good gathers legal files (kept ++ load asked path ∷ []) loaded log (chain ++ path ∷ [])
+  pub good : Good legal files (kept ++ load asked path ∷ []) loaded log (chain ++ path ∷ [])
   pub held : IsHeld files (kept ++ load asked path ∷ []) log f
 
-abbrev pub Meets : Bool → Legal → Files → List Event → Text → Asked → List Text → Text
+abbrev pub Meets : Legal → Files → List Event → Text → Asked → List Text → Text
     → List LoadedEntry
     → List ReadEntry → Result Met RunFault → Type 0
-Meets gathers legal files kept input asked chain path loaded log (Ok (met.Loaded placed)) =
-    Good gathers legal files kept loaded log chain × IsSame files kept input asked chain path placed
-Meets gathers legal files kept input asked chain path loaded log (Ok (met.Opened frame)) =
-    IsNew gathers legal files kept asked chain path loaded log frame
-Meets gathers legal files kept input asked chain path loaded log (Err f) =
-    Stops gathers legal files (keep kept
+Meets legal files kept input asked chain path loaded log (Ok (met.Loaded placed)) =
+    Good legal files kept loaded log chain × IsSame files kept input asked chain path placed
+Meets legal files kept input asked chain path loaded log (Ok (met.Opened frame)) =
+    IsNew legal files kept asked chain path loaded log frame
+Meets legal files kept input asked chain path loaded log (Err f) =
+    Stops legal files (keep kept
     (walk files.trees input asked (100 - length chain) chain path)) log
     f
 

@@ -2,7 +2,6 @@ pub mod Walks
 pub mod Repeats
 pub mod Run
 pub mod Loading
-pub mod Checks
 pub mod Loaded
 pub mod Frames
 pub mod Calls

@@ -1,8 +1,8 @@
 -- No public clause rests on this file.
 -- What holds while files are loaded, for every list of reads that the log begins and any events
 -- kept so far.
-use Rattle.std.specs.Prelude.{◌≡◌, ◌⊎◌, ◌≤◌, ℕ, Bool, true, false, not, nat_lt, List, [], ◌∷◌, ◌++◌}
-use Rattle.std.specs.Prelude.{length, ◌||◌, if◌then◌else◌, map, flat_map, Option, Some, None}
+use Rattle.std.specs.Prelude.{◌≡◌, ◌⊎◌, ◌≤◌, ℕ, Bool, true, false, nat_lt, List, [], ◌∷◌, ◌++◌}
+use Rattle.std.specs.Prelude.{length, map, flat_map, Option, Some, None}
 use Rattle.std.specs.Prelude.{option_to_list, Result, Ok, Err, bytes_eq, String, string_bytes}
 use Rattle.std.specs.Prelude.{slice_get, find, filter, nat_eq}
 use Rattle.std.specs.Global.{Global}
@@ -19,7 +19,7 @@ use Rattle.protobuf_parse_model.specs.Environment.{Customs, no_customs}
 use Rattle.protobuf_parse_model.specs.Tables.{TableTells, picked}
 use Rattle.protobuf_parse_model.specs.declared.descriptor.FileDescriptorProto.{FileDescriptorProto}
 use Rattle.protobuf_parse_model.specs.Faults as elaborating
-use Rattle.protobuf_parse_model.specs.Faults.{fault_view, found}
+use Rattle.protobuf_parse_model.specs.Faults.{fault_view}
 use Rattle.protobuf_parse_model.specs.Linking.{before_others, declares_name, link_faults}
 use Rattle.protobuf_parse_model.specs.declared.error.ElabFailure.{ElabFailure}
 use Rattle.protobuf_parse_model.specs.declared.error.ElabFailure.TheVariants as failure
@@ -31,14 +31,12 @@ use Rattle.protobuf_parse_options.specs.OptionBytes.{customs_by_files}
 use Rattle.protobuf_parse_options.specs.WithoutOptions.{bare_file}
 use Rattle.protobuf_parse_run.specs.declared.fault.RunFault.{RunFault}
 use Rattle.protobuf_parse_run.specs.declared.fault.RunFault.TheVariants as fault
-use Rattle.protobuf_parse_run.specs.declared.elaborated.ElaboratedFile.{ElaboratedFile}
 use Rattle.protobuf_parse_run.specs.declared.loader.LoadedFile.{LoadedFile}
 use Rattle.protobuf_parse_run.specs.declared.loader.LoadedAs.{LoadedAs}
 use Rattle.protobuf_parse_run.specs.declared.reach.Held.{Held}
 use Rattle.protobuf_parse_run.specs.declared.tables.RunSpots.{RunSpots}
 use Rattle.protobuf_parse_run.specs.declared.tables.Tables.{Tables}
 use Rattle.protobuf_parse_run.specs.declared.reach.Held.TheVariants as held_as
-use Rattle.protobuf_parse_run.specs.declared.log.FileReport.{FileReport}
 use Rattle.protobuf_parse_run.specs.declared.log.ReadEntry.{ReadEntry}
 use Rattle.protobuf_parse_run.specs.declared.log.ReadOutcome.{ReadOutcome}
 use Rattle.protobuf_parse_run.specs.Walks.{Asked, the_resolver, the_reader, Event, long, load, elab}
@@ -54,10 +52,9 @@ use Rattle.protobuf_parse_run.specs.Run.{Files, MayAnswer, MayRead, MayResolve, 
 use Rattle.protobuf_parse_run.specs.Run.{HasTrees, OrMemory, IsTheTree, text_read, environment_of}
 use Rattle.protobuf_parse_run.specs.Run.{first_read, fault_said, text_given, origin_given}
 use Rattle.protobuf_parse_run.specs.PlainRuns.{plain_of}
-use Rattle.protobuf_parse_run.specs.Run.{AreAnswered, Legal, StandsThere, StandsInLoad}
-use Rattle.protobuf_parse_run.specs.Run.{StandsInElab, IsToldAt, IsToldOf, IsUnparsed, ending_faults}
-use Rattle.protobuf_parse_run.specs.Run.{ends, is_faulty}
-use Rattle.protobuf_parse_run.specs.Run.{is_nothing, own_faults, report_at}
+use Rattle.protobuf_parse_run.specs.Run.{AreAnswered, Legal, StandsAtEvent, StandsInLoad}
+use Rattle.protobuf_parse_run.specs.Run.{StandsInElab, IsToldAt, IsToldOf, IsUnparsed, fails}
+use Rattle.protobuf_parse_run.specs.Run.{faults_at}
 use Rattle.protobuf_parse_run.specs.Repeats.{repeat_place, told_at}
 
 -- the answers that may be given by those whom a run asks: its resolver, which may answer so, and
@@ -243,19 +240,10 @@ customs_over descriptors reach sight =
 abbrev pub own_over : List FileSyntax → List ℕ → FileSyntax → List elaborating.Fault
 own_over files sight t = file_faults (environment (picked files sight) no_customs t) t
 
--- those that end a run, or a check
-abbrev pub ending_over : Bool → List LoadedEntry → List FileSyntax → List FileDescriptor → List ℕ
-    → List ℕ → FileSyntax → List elaborating.Fault
-ending_over true loaded files descriptors reach sight t = repeats_over loaded files reach t
-ending_over false loaded files descriptors reach sight t =
-    faults_over loaded files descriptors reach sight t
-
--- which of them may be told
-abbrev pub IsToldOver : Bool → List LoadedEntry → List FileSyntax → List FileDescriptor → List ℕ
+-- which of the faults of a file may be told
+abbrev pub IsToldOver : List LoadedEntry → List FileSyntax → List FileDescriptor → List ℕ
     → List ℕ → FileSyntax → elaborating.Fault → Type 0
-IsToldOver true loaded files descriptors reach sight t f =
-    IsToldOf (repeats_over loaded files reach t) [] f
-IsToldOver false loaded files descriptors reach sight t f =
+IsToldOver loaded files descriptors reach sight t f =
     IsToldOf (repeats_over loaded files reach t)
     (before_others (own_over files sight t)
     (file_faults (environment (picked files sight) (customs_over descriptors reach sight) t) t)) f
@@ -265,14 +253,6 @@ abbrev pub TellsSuch : ElabFailure → (elaborating.Fault → Type 0) → Type 0
 TellsSuch failure.Memory Told = Unit {0}
 TellsSuch (failure.Fault e) Told = Told (fault_view e)
 
--- what a check tells, where it is known whether a file that it reaches has faults of its own
-abbrev pub report_over : List FileSyntax → List FileDescriptor → List ℕ → List ℕ → Bool
-    → FileSyntax → List elaborating.Fault
-report_over files descriptors reach sight faulty t =
-    before_others (own_over files sight t)
-    (if faulty then []
-    else file_faults (environment (picked files sight) (customs_over descriptors reach sight) t) t)
-
 abbrev pub file_over : List FileSyntax → List FileDescriptor → List ℕ → List ℕ → Text → FileSyntax
     → FileDescriptor
 file_over files descriptors reach sight path t =
@@ -281,41 +261,23 @@ file_over files descriptors reach sight path t =
 abbrev pub descriptor_seen : Bor FileDescriptorProto → FileDescriptor
 descriptor_seen d = described.file_view d.now
 
--- the file with this number has faults of its own
-abbrev pub has_faults : Option LoadedEntry → Bool
-has_faults None = false
-has_faults (Some e) = e.1.faulty
-
--- what a check tells of a loaded file
-abbrev pub report_in : LoadedEntry → FileReport
-report_in e = record { path = e.0; faults = e.1.faults }
-
--- so has one of these, or the next
-abbrev pub any_faulty : List LoadedEntry → List ℕ → Bool → Bool
-any_faulty loaded numbers own =
-    own || list_any (λ (n : ℕ). has_faults (slice_get loaded n)) numbers
-
 -- What a file becomes by these numbers: but for options, what it becomes without its custom ones.
-pub record IsElaborated (gathers : Bool) (loaded : List LoadedEntry) (files : List FileSyntax)
-    (reach sight : List ℕ) (path : Text) (t : FileSyntax) (d : ElaboratedFile) : Type 0 where
-  pub faultless : ending_over gathers loaded files (descriptors_over loaded files sight path t)
+pub record IsElaborated (loaded : List LoadedEntry) (files : List FileSyntax)
+    (reach sight : List ℕ) (path : Text) (t : FileSyntax) (d : FileDescriptorProto) : Type 0 where
+  pub faultless : faults_over loaded files (descriptors_over loaded files sight path t)
       reach sight t ≡ []
-  pub descriptor : gathers ≡ false → described.file_view d.descriptor
+  pub descriptor : described.file_view d
       ≡ file_over files (descriptors_over loaded files sight path t) reach sight path t
-  pub alike : bare_file (described.file_view d.descriptor)
-      ≡ bare_file (plain_over files sight path t)
-  pub faulty : d.faulty ≡ not (is_nothing (own_over files sight t))
-  pub told : found d.faults ≡ report_over files (descriptors_over loaded files sight path t)
-      reach sight (any_faulty loaded reach d.faulty) t
+  pub alike : bare_file (described.file_view d) ≡ bare_file (plain_over files sight path t)
 
 -- What a file becomes by these numbers, or the fault that is told.
-abbrev pub ElaboratesTo : Bool → List LoadedEntry → List FileSyntax → (reach sight : List ℕ) → Text
-    → FileSyntax → Result ElaboratedFile ElabFailure → Type 0
-ElaboratesTo gathers loaded files reach sight path t (Ok d) =
-    IsElaborated gathers loaded files reach sight path t d
-ElaboratesTo gathers loaded files reach sight path t (Err e) =
+abbrev pub ElaboratesTo : List LoadedEntry → List FileSyntax → (reach sight : List ℕ) → Text
+    → FileSyntax → Result FileDescriptorProto ElabFailure → Type 0
+ElaboratesTo loaded files reach sight path t (Ok d) =
+    IsElaborated loaded files reach sight path t d
+ElaboratesTo loaded files reach sight path t (Err e) =
     TellsSuch e
-    (IsToldOver gathers loaded files (descriptors_over loaded files sight path t) reach sight t)
+    (IsToldOver loaded files (descriptors_over loaded files sight path t) reach sight t)
 
 -- these are more files than were loaded
 abbrev pub MoreLoaded : List LoadedEntry → List LoadedEntry → Type 0
@@ -353,30 +315,28 @@ imports_shape trees paths =
 
 -- a loaded file had the tree of its path, and is what that becomes; but for options this is what
 -- that becomes without custom ones
-pub record IsLoaded (gathers : Bool) (files : Files) (log : List ReadEntry) (path : Text)
+pub record IsLoaded (files : Files) (log : List ReadEntry) (path : Text)
     (file : LoadedFile) : Type 0 where
   pub low : file.height ≤ 100
   pub is : files.trees path ≡ Some (tree_in file)
-  pub descriptor : gathers ≡ false → described.file_view file.descriptor
+  pub descriptor : described.file_view file.descriptor
       ≡ file_of (environment_of files path (tree_in file)) path (tree_in file)
   pub alike : bare_file (described.file_view file.descriptor)
       ≡ bare_file (plain_of files path (tree_in file))
-  pub faulty : file.faulty ≡ is_faulty files path
-  pub told : found file.faults ≡ report_at files path (tree_in file)
   pub entry : ReadEntry
   pub read : slice_get log file.read ≡ Some entry
   pub named : path_buf_text entry.path ≡ path
   pub first : first_read path files.reads ≡ Some entry.outcome
 
-pub record Good (gathers : Bool) (legal : Legal) (files : Files) (kept : List Event)
+pub record Good (legal : Legal) (files : Files) (kept : List Event)
     (loaded : List LoadedEntry)
     (log : List ReadEntry) (chain : List Text) : Type 0 where
   pub answers : AreAnswered legal (reads_in kept) log
   pub elabs : elab_paths kept ≡ paths_of loaded
-  pub clean : find (ends gathers files) kept ≡ None
+  pub clean : find (fails files) kept ≡ None
   pub settled : (p : Text) (e : LoadedFile) → file_at p loaded ≡ Some e
       → Settled kept e.height (path_shape files.trees p)
-  pub made : AllByRecursion (λ (e : LoadedEntry). IsLoaded gathers files log (string_bytes e.0) e.1)
+  pub made : AllByRecursion (λ (e : LoadedEntry). IsLoaded files log (string_bytes e.0) e.1)
       loaded
   pub known : (p : Text) → has (load the_resolver p) kept ≡ true
       → (among p chain ≡ true) ⊎ (has (elab p) kept ≡ true)
@@ -385,32 +345,32 @@ pub record Good (gathers : Bool) (legal : Legal) (files : Files) (kept : List Ev
 
 -- the event is the first of these that fails, the log has the reads up to it, and the fault stands
 -- at it
-pub record Halts (gathers : Bool) (legal : Legal) (files : Files) (events : List Event)
+pub record Halts (legal : Legal) (files : Files) (events : List Event)
     (log : List ReadEntry)
     (f : RunFault) : Type 0 where
   pub before : List Event
   pub event : Event
   pub after : List Event
   pub split : events ≡ before ++ event ∷ after
-  pub clean : find (ends gathers files) before ≡ None
-  pub failing : ends gathers files event ≡ true
+  pub clean : find (fails files) before ≡ None
+  pub failing : fails files event ≡ true
   pub answers : AreAnswered legal (reads_in (before ++ event ∷ [])) log
-  pub stands : StandsThere gathers files event f
+  pub stands : StandsAtEvent files event f
 
 -- memory ran out, and the log has the reads of a beginning in which nothing fails
-pub record Breaks (gathers : Bool) (legal : Legal) (files : Files) (events : List Event)
+pub record Breaks (legal : Legal) (files : Files) (events : List Event)
     (log : List ReadEntry)
     (f : RunFault) : Type 0 where
   pub memory : f ≡ fault.Memory
   pub before : List Event
   pub after : List Event
   pub split : events ≡ before ++ after
-  pub clean : find (ends gathers files) before ≡ None
+  pub clean : find (fails files) before ≡ None
   pub answers : AreAnswered legal (reads_in before) log
 
-abbrev pub Stops : Bool → Legal → Files → List Event → List ReadEntry → RunFault → Type 0
-Stops gathers legal files events log f = Halts gathers legal files events log f
-    ⊎ Breaks gathers legal files events log f
+abbrev pub Stops : Legal → Files → List Event → List ReadEntry → RunFault → Type 0
+Stops legal files events log f = Halts legal files events log f
+    ⊎ Breaks legal files events log f
 
 -- whom a read asks
 abbrev pub asked_by : Option (Bor (List ℕ)) → Asked
@@ -468,23 +428,23 @@ IsContentFault p origin text (fault.Parse file error) = (string_bytes file ≡ o
 IsContentFault p origin text _ = ⊥
 
 -- what a call leaves, where the events are those kept with its own
-abbrev pub Leaves : Bool → Legal → Files → List Event → WalkShape → List LoadedEntry
+abbrev pub Leaves : Legal → Files → List Event → WalkShape → List LoadedEntry
     → List ReadEntry
     → List Text
     → Result LoadedAs RunFault → Type 0
-Leaves gathers legal files events shape loaded log chain (Ok placed) =
-    Good gathers legal files events loaded log chain × Settled events placed.height shape
-Leaves gathers legal files events shape loaded log chain (Err f) =
-    Stops gathers legal files events log f
+Leaves legal files events shape loaded log chain (Ok placed) =
+    Good legal files events loaded log chain × Settled events placed.height shape
+Leaves legal files events shape loaded log chain (Err f) =
+    Stops legal files events log f
 
-abbrev pub Goes : Bool → Legal → Files → List Event → List LoadedEntry → List ReadEntry
+abbrev pub Goes : Legal → Files → List Event → List LoadedEntry → List ReadEntry
     → Result (Unit {0}) RunFault → Type 0
-Goes gathers legal files events loaded log (Ok _) = Good gathers legal files events loaded log []
-Goes gathers legal files events loaded log (Err f) = Stops gathers legal files events log f
+Goes legal files events loaded log (Ok _) = Good legal files events loaded log []
+Goes legal files events loaded log (Err f) = Stops legal files events log f
 
 -- A file was added for this path: it had this tree, in which no fault stands, and is what that
 -- becomes.
-pub record IsAdded (gathers : Bool) (files : Files) (path : Text) (tree : FileSyntax)
+pub record IsAdded (files : Files) (path : Text) (tree : FileSyntax)
     (height read : ℕ) (old new : List LoadedEntry) (placed : LoadedAs) : Type 0 where
   pub key : String Global
   pub file : LoadedFile
@@ -493,13 +453,11 @@ pub record IsAdded (gathers : Bool) (files : Files) (path : Text) (tree : FileSy
   pub tree_is : tree_in file ≡ tree
   pub height_is : file.height ≡ height
   pub read_is : file.read ≡ read
-  pub faultless : ending_faults gathers files path (Some tree) ≡ []
-  pub descriptor : gathers ≡ false → described.file_view file.descriptor
+  pub faultless : faults_at files path (Some tree) ≡ []
+  pub descriptor : described.file_view file.descriptor
       ≡ file_of (environment_of files path tree) path tree
   pub alike : bare_file (described.file_view file.descriptor)
       ≡ bare_file (plain_of files path tree)
-  pub faulty : file.faulty ≡ not (is_nothing (own_faults files path (Some tree)))
-  pub told : found file.faults ≡ report_at files path tree
   pub placed_is : placed.height ≡ height
 
 -- the texts of a chain
@@ -537,15 +495,15 @@ IsPlaced path loaded (Some placed) = (file : LoadedFile) × (file_at path loaded
     × (placed.height ≡ file.height) × IsNumbered (named_trees loaded) placed.number path
 
 -- what an elaboration leaves
-abbrev pub ElaboratesFile : Bool → Files → Text → FileSyntax → ℕ → ℕ → List ReadEntry
+abbrev pub ElaboratesFile : Files → Text → FileSyntax → ℕ → ℕ → List ReadEntry
     → List LoadedEntry → List LoadedEntry → Result LoadedAs RunFault → Type 0
-ElaboratesFile gathers files path tree height read log old new (Ok placed) = file_at path old ≡ None
-    → IsAdded gathers files path tree height read old new placed
-ElaboratesFile gathers files path tree height read log old new (Err f) = (e : ReadEntry)
+ElaboratesFile files path tree height read log old new (Ok placed) = file_at path old ≡ None
+    → IsAdded files path tree height read old new placed
+ElaboratesFile files path tree height read log old new (Err f) = (e : ReadEntry)
     → slice_get log read ≡ Some e → path_buf_text e.path ≡ path
     → OrMemory f
     (StandsInElab (origin_given path (Some e.outcome))
-    (IsToldAt gathers files path (Some tree)) f)
+    (IsToldAt files path (Some tree)) f)
 
 -- the trees of the loaded files, and behind them that of the next
 abbrev pub with_next : List LoadedEntry → FileSyntax → List FileSyntax
@@ -559,7 +517,7 @@ descriptors_next loaded sight path tree =
 -- A file was added behind those that were loaded, whose imports have these numbers, and its public
 -- ones those. By the numbers of the files that it reaches and sees, no fault stands in it, and it
 -- has become its descriptor.
-pub record IsAddedOver (gathers : Bool) (path : Text) (tree : FileSyntax) (height read : ℕ)
+pub record IsAddedOver (path : Text) (tree : FileSyntax) (height read : ℕ)
     (imports public : List ℕ) (old new : List LoadedEntry) (tables : Tables)
     (placed : LoadedAs) : Type 0 where
   pub key : String Global
@@ -573,15 +531,11 @@ pub record IsAddedOver (gathers : Bool) (path : Text) (tree : FileSyntax) (heigh
   pub reaches : AreJoined held_as.Reach old imports file.reach.items
   pub sees : AreJoined held_as.HandedOn old imports sight
   pub hands_on : AreJoined held_as.HandedOn old public file.handed_on.items
-  pub faultless : ending_over gathers old (with_next old tree)
+  pub faultless : faults_over old (with_next old tree)
       (descriptors_next old sight path tree) file.reach.items sight tree ≡ []
-  pub descriptor : gathers ≡ false → described.file_view file.descriptor
+  pub descriptor : described.file_view file.descriptor
       ≡ file_over (with_next old tree)
       (descriptors_next old sight path tree) file.reach.items sight path tree
-  pub faulty : file.faulty ≡ not (is_nothing (own_over (with_next old tree) sight tree))
-  pub told : found file.faults ≡ report_over (with_next old tree)
-      (descriptors_next old sight path tree) file.reach.items sight
-      (any_faulty old file.reach.items file.faulty) tree
   pub alike : bare_file (described.file_view file.descriptor)
       ≡ bare_file (plain_over (with_next old tree) sight path tree)
   pub tells : TableTells tables.names (with_next old tree)
@@ -591,26 +545,26 @@ pub record IsAddedOver (gathers : Bool) (path : Text) (tree : FileSyntax) (heigh
 
 -- By the numbers of the files that a file reaches and sees, this fault stands in it, or memory ran
 -- out.
-abbrev pub IsRefusedOver : Bool → Text → Text → FileSyntax → List ℕ → List LoadedEntry → RunFault
+abbrev pub IsRefusedOver : Text → Text → FileSyntax → List ℕ → List LoadedEntry → RunFault
     → Type 0
-IsRefusedOver gathers origin path tree imports old f =
+IsRefusedOver origin path tree imports old f =
     OrMemory f ((reach : List ℕ) × (sight : List ℕ) × AreJoined held_as.Reach old imports reach
     × AreJoined held_as.HandedOn old imports sight
     × StandsInElab origin
-    (IsToldOver gathers old (with_next old tree)
+    (IsToldOver old (with_next old tree)
     (descriptors_next old sight path tree) reach sight tree) f)
 
-abbrev pub ElaboratesOver : Bool → Text → FileSyntax → ℕ → ℕ → List ℕ → List ℕ → List ReadEntry
+abbrev pub ElaboratesOver : Text → FileSyntax → ℕ → ℕ → List ℕ → List ℕ → List ReadEntry
     → List LoadedEntry
     → List LoadedEntry → Tables → Result LoadedAs RunFault → Type 0
-ElaboratesOver gathers path tree height read imports public log old new tables (Ok placed) =
+ElaboratesOver path tree height read imports public log old new tables (Ok placed) =
     file_at path old ≡ None
-    → IsAddedOver gathers path tree height read imports public old new tables
+    → IsAddedOver path tree height read imports public old new tables
     placed
-ElaboratesOver gathers path tree height read imports public log old new tables
+ElaboratesOver path tree height read imports public log old new tables
     (Err f) = (e : ReadEntry)
     → slice_get log read ≡ Some e → path_buf_text e.path ≡ path
-    → IsRefusedOver gathers (origin_given path (Some e.outcome)) path tree imports old f
+    → IsRefusedOver (origin_given path (Some e.outcome)) path tree imports old f
 
 -- no file on the chain is loaded
 abbrev pub AreUnloaded : List Text → List LoadedEntry → Type 0

@@ -5,7 +5,6 @@ use Rattle.std.specs.Prelude.{slice_get, Result, Ok, Err, if◌then◌else◌, b
 use Rattle.std.specs.Prelude.{find}
 use Rattle.std.specs.Global.{Vec}
 use Rattle.std.specs.Borrow.{Bor}
-use Rattle.std.specs.List.{list_any}
 use Rattle.std.specs.Str.{IsUtf8}
 use Rattle.protobuf_parse_base.specs.PathViews.{path_buf_text}
 use Rattle.protobuf_parse_lexer.specs.Cut.{error_place}
@@ -176,54 +175,30 @@ own_faults files p (Some t) =
     file_faults (environment (trees_at files.trees (files.seen p)) no_customs t) t
 own_faults files p None = []
 
--- whether a file has faults of its own
-abbrev pub is_faulty : Files → Text → Bool
-is_faulty files p = not (is_nothing (own_faults files p (files.trees p)))
-
--- What a check tells of a file: its own faults; or, where it has none, those of its custom options,
--- if no file that it reaches has faults of its own, so that its descriptor says what its types are.
-abbrev pub report_at : Files → Text → FileSyntax → List elaborating.Fault
-report_at files p t =
-    before_others (own_faults files p (Some t))
-    (if list_any (is_faulty files) (files.reached p) then []
-    else file_faults (environment_of files p t) t)
-
 -- the bytes of the read with this number, which an input's own path was read by
 abbrev pub content_at : Files → ℕ → Option Text
 content_at files n = text_given [] [] (answer_at files n)
 
--- the faults of a file that end a run; or, where this is true, a check, which goes on behind a file
--- with faults, but where names are declared twice
-abbrev pub ending_faults : Bool → Files → Text → Option FileSyntax → List elaborating.Fault
-ending_faults true files p (Some t) = repeat_faults files.trees files.reached p t
-ending_faults true files p None = []
-ending_faults false files p t = faults_at files p t
-
--- Of these faults of a file the one that is told: one of the names that are declared twice, if one
+-- Of the faults of a file the one that is told: one of the names that are declared twice, if one
 -- is, since the files that it reaches are listed in any order; else the first of the others.
 abbrev pub IsToldOf : (repeats others : List elaborating.Fault) → elaborating.Fault → Type 0
 IsToldOf [] others f = IsFirst others f
 IsToldOf (r ∷ rs) others f = Among (r ∷ rs) f
 
--- the fault of a file that ends a run; or, where this is true, a check
-abbrev pub IsToldAt : Bool → Files → Text → Option FileSyntax → elaborating.Fault → Type 0
-IsToldAt gathers files p None f = ⊥
-IsToldAt true files p (Some t) f = IsToldOf (repeat_faults files.trees files.reached p t) [] f
-IsToldAt false files p (Some t) f =
+-- the fault of a file that ends a run
+abbrev pub IsToldAt : Files → Text → Option FileSyntax → elaborating.Fault → Type 0
+IsToldAt files p None f = ⊥
+IsToldAt files p (Some t) f =
     IsToldOf (repeat_faults files.trees files.reached p t)
     (before_others (own_faults files p (Some t)) (file_faults (environment_of files p t) t)) f
 
--- which events end it
-abbrev pub ends : Bool → Files → Event → Bool
-ends gathers files (cycle p) = true
-ends gathers files (long i) = true
-ends gathers files (load a p) = not (is_some (files.trees p))
-ends gathers files (check n f p) = not (are_same_bytes (content_at files n) (text_for files p))
-ends gathers files (elab p) = not (is_nothing (ending_faults gathers files p (files.trees p)))
-
 -- whether an event ends a run
 abbrev pub fails : Files → Event → Bool
-fails files e = ends false files e
+fails files (cycle p) = true
+fails files (long i) = true
+fails files (load a p) = not (is_some (files.trees p))
+fails files (check n f p) = not (are_same_bytes (content_at files n) (text_for files p))
+fails files (elab p) = not (is_nothing (faults_at files p (files.trees p)))
 
 -- ---- which fault stands where an event fails
 
@@ -285,20 +260,16 @@ StandsInElab origin Told (fault.Elaborate file error) = (string_bytes file ≡ o
     × Told (fault_view error)
 StandsInElab origin Told _ = ⊥
 
--- the fault stands at the event that ends a run, or a check
-abbrev pub StandsThere : Bool → Files → Event → RunFault → Type 0
-StandsThere gathers files (cycle p) = StandsInCycle p
-StandsThere gathers files (long i) = StandsInLong i
-StandsThere gathers files (load asked p) =
-    StandsInLoad asked p (answer_for files p) (text_for files p)
-StandsThere gathers files (check n own p) = StandsInCheck own p (answer_at files n)
-StandsThere gathers files (elab p) =
-    StandsInElab (origin_given p (answer_for files p))
-    (IsToldAt gathers files p (files.trees p))
-
 -- the fault stands at the event that ends a run
 abbrev pub StandsAtEvent : Files → Event → RunFault → Type 0
-StandsAtEvent files e f = StandsThere false files e f
+StandsAtEvent files (cycle p) = StandsInCycle p
+StandsAtEvent files (long i) = StandsInLong i
+StandsAtEvent files (load asked p) =
+    StandsInLoad asked p (answer_for files p) (text_for files p)
+StandsAtEvent files (check n own p) = StandsInCheck own p (answer_at files n)
+StandsAtEvent files (elab p) =
+    StandsInElab (origin_given p (answer_for files p))
+    (IsToldAt files p (files.trees p))
 
 -- ---- which answers are legal
 

@@ -3,7 +3,6 @@
 
 mod asking;
 mod bundled;
-mod check;
 pub mod elaborated;
 mod fault;
 mod frame;
@@ -20,11 +19,10 @@ pub mod tables;
 
 pub use asking::read_own;
 pub use bundled::bundled_files;
-pub use check::check_inputs;
 pub use fault::{ReadInputFault, ResolveFault, RunFault};
 pub use laws::{custom_bytes_stand, files_come_once, runs_are_stable, seen_files_are_reached};
 pub use loader::{LoadedFile, compared, content_of};
-pub use log::{CheckLog, FileReport, ReadEntry, ReadOutcome, RunInput, RunLog};
+pub use log::{ReadEntry, ReadOutcome, RunInput, RunLog};
 pub use one_read::{InputRead, read_input};
 pub use run::{parse_and_typecheck_custom, run_inputs};
 pub use source::{InputReader, ProtoPathResolver, ResolvedProtoFile};

@@ -30,7 +30,7 @@ ghost use Rattle.protobuf_parse_run.specs.Calls.{GoesThrough, GoesTo, HasIndex, 
 ghost use Rattle.protobuf_parse_run.specs.Calls.{MeetsFile, StaysDecided, with_file};
 
 use crate::asking::{answer, tree_given, unreadable};
-use crate::elaborated::{ElaboratedFile, checked, elaborated};
+use crate::elaborated::elaborated;
 use crate::fault::RunFault;
 use crate::frame::LoadFrame;
 use crate::loaded::LoadedFiles;
@@ -61,10 +61,6 @@ pub struct LoadedFile {
     /// Which read gave it.
     pub read: usize,
     pub descriptor: FileDescriptorProto,
-    /// What is wrong in it, where faults are gathered.
-    pub faults: Vec<ElabError>,
-    /// Whether something is wrong in it, its custom options left out.
-    pub faulty: bool,
 }
 
 // Written out: what drops it calls this, and need not prove anew how descriptors are dropped.
@@ -77,30 +73,11 @@ impl Drop for LoadedFile {
             handed_on: _,
             read: _,
             descriptor: _,
-            faults: _,
-            faulty: _,
         } = self;
     }
 }
 
 impl LoadedFile {
-    /// What is wrong in it, where faults are gathered.
-    pub fn into_faults(self) -> Vec<ElabError>
-        ensures { result ≡ self.faults }
-    {
-        let LoadedFile {
-            tree: _,
-            height: _,
-            reach: _,
-            handed_on: _,
-            read: _,
-            descriptor: _,
-            faults,
-            faulty: _,
-        } = self;
-        faults
-    }
-
     /// What it became.
     pub fn into_descriptor(self) -> FileDescriptorProto
         ensures { result ≡ self.descriptor }
@@ -112,8 +89,6 @@ impl LoadedFile {
             handed_on: _,
             read: _,
             descriptor,
-            faults: _,
-            faulty: _,
         } = self;
         descriptor
     }
@@ -351,7 +326,7 @@ fn load_file<R: ProtoPathResolver, I: InputReader>(
     let mut stack: Vec<LoadFrame> = Vec::new(alloc);
     'files: loop {
         let Some(statement) = top.tree.statements.get(top.next) else {
-            let placed = elaborate_last(alloc, loader, sources.gathers, top)?;
+            let placed = elaborate_last(alloc, loader, top)?;
             let Some(parent) = stack.pop() else {
                 return Ok(());
             };
@@ -457,13 +432,12 @@ fn push_if(numbers: &mut Vec<u32>, public: bool, number: u32) -> Result<(), Allo
 fn elaborate_last(
     alloc: Global,
     loader: &mut Loader,
-    gathers: bool,
     frame: LoadFrame,
 ) -> Result<LoadedAs, RunFault>
     requires low { frame.height < MAX_CHAIN }
     requires few { statements_in (file_syntax frame.tree) ≤ 2147483647 }
     requires begins { HasIndex loader.old }
-    ensures { ElaboratesFrame gathers frame loader.old loader.new result }
+    ensures { ElaboratesFrame frame loader.old loader.new result }
 {
     let LoadFrame {
         path,
@@ -479,16 +453,7 @@ fn elaborate_last(
         all: &below,
         public: &public,
     };
-    elaborate_and_add(
-        alloc,
-        loader,
-        gathers,
-        path,
-        tree,
-        height + 1,
-        &imports,
-        read,
-    )
+    elaborate_and_add(alloc, loader, path, tree, height + 1, &imports, read)
 }
 
 /// L7.
@@ -594,7 +559,6 @@ fn is_memory(fault: &RunFault) -> bool
 fn elaborate_and_add(
     alloc: Global,
     loader: &mut Loader,
-    gathers: bool,
     path: String,
     tree: FileTree,
     height: usize,
@@ -609,7 +573,7 @@ fn elaborate_and_add(
     ensures height { IfOk result (λ placed. placed.height ≡ height) }
     ensures elaborates { TableTells loader.old.tables.names
         (trees_of (named_trees loader.old.loaded.entries))
-        → ElaboratesOver gathers (string_bytes path)
+        → ElaboratesOver (string_bytes path)
         (file_syntax tree) height read imports.now.all.now imports.now.public.now
         loader.old.reads.items loader.old.loaded.entries loader.new.loaded.entries loader.new.tables
         result }
@@ -617,12 +581,7 @@ fn elaborate_and_add(
     let sights = sights_of(alloc, &loader.loaded, imports)?;
     loader.tables.names.add(alloc, loader.loaded.len(), &tree)?;
     let kept = Snapshot::of(&tree);
-    let elaborated = descriptor_of(alloc, loader, gathers, &sights, &path, tree, read)?;
-    let ElaboratedFile {
-        descriptor,
-        faults,
-        faulty,
-    } = elaborated;
+    let descriptor = descriptor_of(alloc, loader, &sights, &path, tree, read)?;
     let Sights {
         reach,
         handed_on,
@@ -635,8 +594,6 @@ fn elaborate_and_add(
         handed_on,
         read,
         descriptor,
-        faults,
-        faulty,
     };
     let placed = add(&mut loader.loaded, path, file)?;
     Ok(placed)
@@ -658,12 +615,11 @@ fn add(loaded: &mut LoadedFiles, path: String, file: LoadedFile) -> Result<Loade
 fn descriptor_of(
     alloc: Global,
     loader: &mut Loader,
-    gathers: bool,
     sights: &Sights,
     path: &str,
     tree: FileTree,
     read: usize,
-) -> Result<ElaboratedFile, RunFault>
+) -> Result<FileDescriptorProto, RunFault>
     requires few { statements_in (file_syntax tree) ≤ 2147483647 }
     requires reach { IsStrictlyIncreasing sights.now.reach.items }
     requires sight { IsStrictlyIncreasing sights.now.sight.items }
@@ -675,70 +631,32 @@ fn descriptor_of(
     ensures meets { loader.new.meets ≡ loader.old.meets }
     ensures ok { (files : List FileSyntax) → TableTells loader.old.tables.names files →
         IfOk result
-        (λ d. ElaboratesTo gathers loader.old.loaded.entries files sights.now.reach.items
+        (λ d. ElaboratesTo loader.old.loaded.entries files sights.now.reach.items
         sights.now.sight.items path.now (file_syntax tree) (Ok d)) }
     ensures err { (files : List FileSyntax) → TableTells loader.old.tables.names files
         → let t = file_syntax tree in
         IfErr result (λ f. (e : ReadEntry) → slice_get loader.old.reads.items read ≡ Some e
         → path_buf_text e.path ≡ path.now
         → OrMemory f (StandsInElab (origin_given path.now (Some e.outcome))
-        (IsToldOver gathers loader.old.loaded.entries files
+        (IsToldOver loader.old.loaded.entries files
         (descriptors_over loader.old.loaded.entries files sights.now.sight.items path.now t)
         sights.now.reach.items sights.now.sight.items t) f)) }
     ensures begins { (files : List FileSyntax) → TableTells loader.old.tables.names files
         → IfOk result (λ d. IndexBegins loader.new.tables.spots
-        (descriptors_with loader.old.loaded.entries (file_view d.descriptor))) }
+        (descriptors_with loader.old.loaded.entries (file_view d))) }
 {
-    match elaborated_or_checked(alloc, loader, gathers, sights, path, tree) {
-        Ok(elaborated) => Ok(elaborated),
-        Err(ElabFailure::Memory) => Err(RunFault::Memory),
-        Err(ElabFailure::Fault(error)) => Err(refused(alloc, &loader.reads, read, path, error)),
-    }
-}
-
-/// What a file becomes, or, where faults are gathered, what is wrong in it too.
-fn elaborated_or_checked(
-    alloc: Global,
-    loader: &mut Loader,
-    gathers: bool,
-    sights: &Sights,
-    path: &str,
-    tree: FileTree,
-) -> Result<ElaboratedFile, ElabFailure>
-    requires few { statements_in (file_syntax tree) ≤ 2147483647 }
-    requires reach { IsStrictlyIncreasing sights.now.reach.items }
-    requires sight { IsStrictlyIncreasing sights.now.sight.items }
-    requires begins { HasIndex loader.old }
-    ensures loaded { loader.new.loaded ≡ loader.old.loaded }
-    ensures names { loader.new.tables.names ≡ loader.old.tables.names }
-    ensures reads { loader.new.reads ≡ loader.old.reads }
-    ensures chain { loader.new.chain ≡ loader.old.chain }
-    ensures meets { loader.new.meets ≡ loader.old.meets }
-    ensures elaborates { (files : List FileSyntax) → TableTells loader.old.tables.names files
-        → ElaboratesTo gathers loader.old.loaded.entries files sights.now.reach.items
-        sights.now.sight.items path.now (file_syntax tree) result }
-    ensures begins { (files : List FileSyntax) → TableTells loader.old.tables.names files
-        → IfOk result (λ d. IndexBegins loader.new.tables.spots
-        (descriptors_with loader.old.loaded.entries (file_view d.descriptor))) }
-{
-    if gathers {
-        return checked(
-            alloc,
-            &loader.loaded,
-            &mut loader.tables,
-            sights,
-            path,
-            tree,
-        );
-    }
-    elaborated(
+    match elaborated(
         alloc,
         &loader.loaded,
         &mut loader.tables,
         sights,
         path,
         tree,
-    )
+    ) {
+        Ok(descriptor) => Ok(descriptor),
+        Err(ElabFailure::Memory) => Err(RunFault::Memory),
+        Err(ElabFailure::Fault(error)) => Err(refused(alloc, &loader.reads, read, path, error)),
+    }
 }
 
 /// L10 of the file that this read gave.

@@ -2,7 +2,7 @@
 
 use crate::fault::{ReadInputFault, ResolveFault, RunFault};
 use protobuf_parse_base::proto_path::ProtoPathBuf;
-use protobuf_parse_model::{ElabError, FileDescriptorProto};
+use protobuf_parse_model::FileDescriptorProto;
 
 /// An input of a run.
 #[derive(Debug, Drop)]
@@ -40,25 +40,4 @@ pub struct RunLog {
     pub meets: u128,
     /// The descriptors of all files that the inputs reach, each once and after its imports.
     pub result: Result<Vec<FileDescriptorProto>, RunFault>,
-}
-
-/// What is wrong in a file.
-#[derive(Debug, Drop)]
-pub struct FileReport {
-    /// Its proto path.
-    pub path: String,
-    /// Its faults, each with its place, in the order of the definitions; none where nothing is
-    /// wrong.
-    pub faults: Vec<ElabError>,
-}
-
-/// What a check did.
-#[derive(Debug, Drop)]
-pub struct CheckLog {
-    /// The reads, as in a [`RunLog`].
-    pub reads: Vec<ReadEntry>,
-    /// How often a file was met, as an input or an import.
-    pub meets: u128,
-    /// A report of each file that the inputs reach, in the order of loading; or what ended it.
-    pub result: Result<Vec<FileReport>, RunFault>,
 }

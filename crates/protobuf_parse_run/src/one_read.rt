@@ -56,7 +56,6 @@ pub fn read_input<'a, R: ProtoPathResolver, I: InputReader>(
         resolver,
         reader,
         bundled,
-        gathers: false,
     };
     match input {
         RunInput::Named(name) => read_one(alloc, &sources, name, None),

@@ -64,7 +64,6 @@ pub fn run_inputs<'a, R: ProtoPathResolver, I: InputReader>(
         resolver,
         reader,
         bundled,
-        gathers: false,
     };
     let outcome = load_inputs(alloc, &mut loader, &sources, inputs);
     let Loader {

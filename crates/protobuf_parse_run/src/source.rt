@@ -75,6 +75,4 @@ pub struct Sources<'a, R, I> {
     pub reader: &'a I,
     /// Proto paths and texts, which stand for what the resolver has no file for.
     pub bundled: &'a [(&'a str, &'a str)],
-    /// Whether the faults of each file are gathered, so that the first of them is not the end.
-    pub gathers: bool,
 }

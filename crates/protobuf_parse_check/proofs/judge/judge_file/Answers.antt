@@ -1,4 +1,4 @@
-use Rattle.std.proofs.Common.{ℕ, ◌≡◌, ◌∙◌, ◌++◌, ◌∷◌, [], List, ap, length, refl, subst, sym, false}
+use Rattle.std.proofs.Common.{ℕ, ◌≡◌, ◌∙◌, ◌++◌, ◌∷◌, [], List, ap, length, refl, subst, sym}
 use Rattle.std.specs.Global.{Vec}
 use Rattle.std.proofs.lemmas.List.{length-map}
 use Rattle.protobuf_parse_base.specs.Multimaps.{values_under}
@@ -43,8 +43,6 @@ returns-clause-tells c =
       handed_on = c.in_ok-sights.sights.handed_on;
       read = c.args.file.read;
       descriptor = c.in_ok-descriptor.descriptor;
-      faults = c.new.result;
-      faulty = false;
     } in
     let x : LoadedEntry = (c.args.file.path, entry) in
     subst (λ (names : Declarations). TableTells names
@@ -70,8 +68,6 @@ returns-clause-begins c =
       handed_on = c.in_ok-sights.sights.handed_on;
       read = c.args.file.read;
       descriptor = c.in_ok-descriptor.descriptor;
-      faults = c.new.result;
-      faulty = false;
     } in
     let x : LoadedEntry = (c.args.file.path, entry) in
     begins-next c.verdict_of.new.judge.tables.spots loaded c.add-2.new.self.entries x
@@ -100,8 +96,6 @@ returns-clause-judged c k path before after ordered cuts is so_far =
       handed_on = c.in_ok-sights.sights.handed_on;
       read = c.args.file.read;
       descriptor = c.in_ok-descriptor.descriptor;
-      faults = c.new.result;
-      faulty = false;
     } in
     let x : LoadedEntry = (c.args.file.path, entry) in
     next-so-far k c.args.judge.now _ before after path u c.args.file.path entry

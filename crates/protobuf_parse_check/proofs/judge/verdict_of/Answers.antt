@@ -3,12 +3,12 @@ use Rattle.std.proofs.Common.{ℕ}
 use Rattle.protobuf_parse_syntax.specs.Trees.{file_syntax}
 use Rattle.protobuf_parse_model.specs.Faults.{found}
 use Rattle.protobuf_parse_run.specs.Repeats.{is_nothing}
-use Rattle.protobuf_parse_run.proofs.Spelling.{nothing-is}
 use Rattle.protobuf_parse_check.specs.declared.verdict.Verdict.{Verdict}
 use Rattle.protobuf_parse_check.specs.Judging.{FindsRepeats, IsJudged, any_with, has_fault, has_lost}
 use Rattle.protobuf_parse_check.specs.Judging.{has_trouble}
 use Rattle.protobuf_parse_check.specs.Judging.{is_wrong}
 use Rattle.protobuf_parse_check.specs.Reports.{state_by}
+use Rattle.protobuf_parse_check.proofs.LookingUp.{nothing-is}
 use Rattle.protobuf_parse_check.proofs.Plainly.{shown-as}
 use Rattle.protobuf_parse_check.proofs.judge.verdict_of.Goals as goal
 use Rattle.protobuf_parse_check.proofs.judge.verdict_of.Goals.{then-losses, else-losses}

@@ -5,8 +5,7 @@ use Rattle.protobuf_parse_model.specs.Faults.{fault_view, found}
 use Rattle.protobuf_parse_model.specs.declared.error.ElabError.{ElabError}
 use Rattle.protobuf_parse_run.specs.Loading.{own_over}
 use Rattle.protobuf_parse_run.specs.Repeats.{is_nothing}
-use Rattle.protobuf_parse_run.proofs.Spelling.{nothing-is}
-use Rattle.protobuf_parse_check.proofs.LookingUp.{index-begins, looked-if, not-looked}
+use Rattle.protobuf_parse_check.proofs.LookingUp.{index-begins, looked-if, nothing-is, not-looked}
 use Rattle.protobuf_parse_check.proofs.judged.judge_tree.Goals as goal
 use Rattle.protobuf_parse_check.proofs.judged.judge_tree.Goals.{then-faulty-via-then-faulty}
 use Rattle.protobuf_parse_check.proofs.judged.judge_tree.Goals.{then-faulty-via-else-faulty+then-not-looks_up}

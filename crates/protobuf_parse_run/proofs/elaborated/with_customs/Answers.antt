@@ -1,13 +1,14 @@
-use Rattle.std.proofs.Common.{◌≡◌, ◌∙◌, ap, sym}
+use Rattle.std.proofs.Common.{◌∙◌, ap, sym}
 use Rattle.std.proofs.lemmas.Result.{err_from_is_err_and}
 use Rattle.protobuf_parse_syntax.specs.Trees.{file_syntax}
 use Rattle.protobuf_parse_model.specs.Descriptors as described
 use Rattle.protobuf_parse_model.specs.Descriptors.{FileDescriptor}
 use Rattle.protobuf_parse_model.specs.Tables.{picked}
+use Rattle.protobuf_parse_elaboration.specs.FileDescriptor.{environment, file_faults, file_of}
 use Rattle.protobuf_parse_options.specs.WithoutOptions.{bare_file}
 use Rattle.protobuf_parse_run.specs.Loading.{customs_over, descriptors_with}
-use Rattle.protobuf_parse_run.proofs.Catching.{next-alike, whole-alike, whole-begins}
-use Rattle.protobuf_parse_run.proofs.Spelling.{customs-told, options-alike, own-told, some-set}
+use Rattle.protobuf_parse_run.proofs.Catching.{whole-if}
+use Rattle.protobuf_parse_run.proofs.Spelling.{options-alike, own-told, some-set}
 use Rattle.protobuf_parse_run.proofs.elaborated.with_customs.Goals as goal
 
 pub returns-in_err-plain-clause-elaborates : goal.returns-in_err-plain-clause-elaborates
@@ -19,35 +20,18 @@ returns-in_err-plain-clause-elaborates c files told linked =
     (file_syntax c.args.tree) linked c.in_err-plain.field-0.0
     (c.in_err-plain.ensures files told))
 
-pub returns-in_err-descriptor-clause-elaborates : goal.returns-in_err-descriptor-clause-elaborates
-returns-in_err-descriptor-clause-elaborates c files told linked =
-    let loaded = c.args.loaded.now.entries in
-    let reach = c.args.seen.now.reach.now in
-    let sight = c.args.seen.now.sight.now in
-    let own = c.in_ok-plain.ensures files told in
-    let descriptors = descriptors_with loaded (described.file_view c.in_ok-plain.plain) in
-    let same = ap (λ (d : FileDescriptor). customs_over (descriptors_with loaded d) reach sight)
-    own.1 in
-    let e = err_from_is_err_and c.from_residual-in_err-descriptor.result
-    c.from_residual-in_err-descriptor.ensures.1 in
-    rw (e.1, e.2)
-    (customs-told loaded files reach sight c.args.path.now (file_syntax c.args.tree) linked
-    (customs_over descriptors reach sight) c.in_err-descriptor.field-0.0 same own.0
-    (c.in_err-descriptor.ensures files told))
-
 pub returns-clause-elaborates : goal.returns-clause-elaborates
 returns-clause-elaborates c files told linked =
     let loaded = c.args.loaded.now.entries in
     let reach = c.args.seen.now.reach.now in
     let sight = c.args.seen.now.sight.now in
     let own = c.in_ok-plain.ensures files told in
-    let whole = c.in_ok-descriptor.ensures files told in
     let descriptors = descriptors_with loaded (described.file_view c.in_ok-plain.plain) in
     let same = ap (λ (d : FileDescriptor). customs_over (descriptors_with loaded d) reach sight)
     own.1 in
     some-set loaded files reach sight c.args.path.now (file_syntax c.args.tree) linked
-    (customs_over descriptors reach sight) c.in_ok-descriptor.descriptor
-    c.new.result c.new.ensures.items same own.0 whole.0 whole.1
+    (customs_over descriptors reach sight) c.spelled.result same own.0
+    (c.spelled.ensures files told)
 
 pub returns-clause-begins : goal.returns-clause-begins
 returns-clause-begins c files told =
@@ -56,13 +40,10 @@ returns-clause-begins c files told =
     let reach = c.args.seen.now.reach.now in
     let sight = c.args.seen.now.sight.now in
     let plain = described.file_view c.in_ok-plain.plain in
-    let whole = described.file_view c.in_ok-descriptor.descriptor in
     let customs = customs_over (descriptors_with loaded plain) reach sight in
-    let alike : bare_file plain ≡ bare_file whole =
-    ap bare_file (c.in_ok-plain.ensures files told).1
-    ∙ sym (options-alike (picked files sight) customs c.args.path.now t)
-    ∙ ap bare_file (sym (c.in_ok-descriptor.ensures files told).1) in
-    whole-begins c.add_next.new.spots (descriptors_with loaded whole)
-    (whole-alike c.add_next.new.spots (descriptors_with loaded plain)
-    (descriptors_with loaded whole) (next-alike loaded plain whole alike)
-    c.in_ok-add_next.ensures)
+    let env = environment (picked files sight) customs t in
+    whole-if c.add_next.new.spots loaded plain (file_of env c.args.path.now t) (file_faults env t)
+    c.spelled.result
+    (ap bare_file (c.in_ok-plain.ensures files told).1
+    ∙ sym (options-alike (picked files sight) customs c.args.path.now t))
+    c.in_ok-add_next.ensures (c.spelled.ensures files told)

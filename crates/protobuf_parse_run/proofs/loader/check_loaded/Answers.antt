@@ -10,20 +10,20 @@ use Rattle.protobuf_parse_run.proofs.loader.check_loaded.Goals as goal
 
 pub returns-in-None-clause-goes : goal.returns-in-None-clause-goes
 returns-in-None-clause-goes g c files kept go good =
-    no-check _ _ files kept _ _ _ _ _ (c.to_str.ensures.text ∙ c.as_path.ensures) good
+    no-check _ files kept _ _ _ _ _ (c.to_str.ensures.text ∙ c.as_path.ensures) good
     (sym c.in-None.ensures.value)
 
 pub returns-in_err-outcome-clause-goes : goal.returns-in_err-outcome-clause-goes
 returns-in_err-outcome-clause-goes g c files kept go good =
     let p = err_from_is_err_and c.from_residual.result c.from_residual.ensures.1 in
-    rw p.1 (check-breaks _ _ files (rows c.args.sources.now.bundled.now) kept _ _
+    rw p.1 (check-breaks _ files (rows c.args.sources.now.bundled.now) kept _ _
     (path_buf_text c.args.name.now) _ c.args.fs_path.now c.in-Some.file.now
     (c.to_str.ensures.text ∙ c.as_path.ensures) good (sym c.in-Some.ensures.value) p.0 p.2)
 
 pub returns-then-ran_out-clause-goes : goal.returns-then-ran_out-clause-goes
 returns-then-ran_out-clause-goes g c files kept go good =
     rw (c.ran_out.ensures.memory c.if-ran_out.true)
-    (check-breaks _ _ files (rows c.args.sources.now.bundled.now) kept _ _
+    (check-breaks _ files (rows c.args.sources.now.bundled.now) kept _ _
     (path_buf_text c.args.name.now) _ c.args.fs_path.now c.in-Some.file.now
     (c.to_str.ensures.text ∙ c.as_path.ensures) good
     (sym c.in-Some.ensures.value) fault.Memory refl)
@@ -33,14 +33,14 @@ returns-in_err-note-clause-goes g c files kept go good =
     let p = err_from_is_err_and c.from_residual-in_err-note.result
     c.from_residual-in_err-note.ensures.1 in
     rw (p.1, c.in_err-note.ensures.err)
-    (check-breaks _ _ files (rows c.args.sources.now.bundled.now) kept _ _
+    (check-breaks _ files (rows c.args.sources.now.bundled.now) kept _ _
     (path_buf_text c.args.name.now) _ c.args.fs_path.now c.in-Some.file.now
     (c.to_str.ensures.text ∙ c.as_path.ensures) good (sym c.in-Some.ensures.value) p.0 p.2)
 
 pub returns-clause-goes : goal.returns-clause-goes
 returns-clause-goes g c files kept go good =
     rw (ap (λ m. m.entries) c.in_ok-note.ensures.loaded)
-    (check-ends _ _ files (rows c.args.sources.now.bundled.now) kept _ _
+    (check-ends _ files (rows c.args.sources.now.bundled.now) kept _ _
     (path_buf_text c.args.name.now) _ c.args.fs_path.now c.in-Some.file.now
     (c.to_str.ensures.text ∙ c.as_path.ensures) good (sym c.in-Some.ensures.value) _ _ _
     (λ e h. c.content_of-loaded.ensures e (rw c.deref.ensures.value h)) c.in_ok-note.ensures.ok

@@ -19,8 +19,8 @@ returns-in-Err-Fault-clause-err c files told e found named =
     let descriptors =
     descriptors_over c.args.loader.now.loaded.entries files sight c.args.path.now t in
     elab-stands (origin_given c.args.path.now (Some e.outcome))
-    (IsToldOver c.args.gathers c.args.loader.now.loaded.entries files descriptors
+    (IsToldOver c.args.loader.now.loaded.entries files descriptors
     c.args.sights.now.reach.items sight t)
     (fault_view c.in-Err-Fault.error) c.refused.result
     (rw c.in-Err-Fault.field-0-is at (c.in-Err-Fault.ensures.elaborates files told))
-    (c.refused.ensures e (rw (c.deref.ensures.value, c.in-Err-Fault.ensures.reads) found) named)
+    (c.refused.ensures e (rw c.deref.ensures.value found) named)

@@ -21,14 +21,14 @@ returns-clause-elaborates c told none =
     ∙ (named-length loaded ∙ sym c.len.ensures.len) in
     let tells = c.in_ok-add.ensures files number told in
     let sights = c.in_ok-sights.sights in
-    let elaborated = c.in_ok-elaborated.elaborated in
+    let descriptor = c.in_ok-descriptor.descriptor in
     let is = subst
-    (λ (z : Text). ElaboratesTo c.args.gathers loaded
-    (with_next loaded t) sights.reach.items sights.sight.items z t (Ok elaborated))
+    (λ (z : Text). ElaboratesTo loaded
+    (with_next loaded t) sights.reach.items sights.sight.items z t (Ok descriptor))
     c.deref.ensures
-    (c.in_ok-elaborated.ensures.ok (with_next loaded t) tells) in
+    (c.in_ok-descriptor.ensures.ok (with_next loaded t) tells) in
     let same : c.descriptor_of.new.loader.loaded.entries
-    ≡ loaded = ap (λ m. m.entries) c.in_ok-elaborated.ensures.loaded in
+    ≡ loaded = ap (λ m. m.entries) c.in_ok-descriptor.ensures.loaded in
     let added = (rw same at c.in_ok-placed.ensures.added) in
     let file : LoadedFile = record {
       tree = c.of-kept.result;
@@ -36,9 +36,7 @@ returns-clause-elaborates c told none =
       reach = sights.reach;
       handed_on = sights.handed_on;
       read = c.args.read;
-      descriptor = elaborated.descriptor;
-      faults = elaborated.faults;
-      faulty = elaborated.faulty;
+      descriptor = descriptor;
     } in
     record {
       key = c.args.path;
@@ -55,20 +53,18 @@ returns-clause-elaborates c told none =
       faultless = is.faultless;
       descriptor = is.descriptor;
       alike = is.alike;
-      faulty = is.faulty;
-      told = is.told;
-      tells = rw c.in_ok-elaborated.ensures.names tells;
+      tells = rw c.in_ok-descriptor.ensures.names tells;
       begins =
           subst (λ (ps : List FileDescriptor). IndexBegins c.descriptor_of.new.loader.tables.spots
           ps)
           (plains-push loaded (c.args.path, file) ∙ ap (map descriptor_in) (sym added.0))
-          (c.in_ok-elaborated.ensures.begins (with_next loaded t) tells);
+          (c.in_ok-descriptor.ensures.begins (with_next loaded t) tells);
       height_placed = c.in_ok-placed.ensures.height;
       number_placed = added.1;
     }
 
-pub returns-in_err-elaborated-clause-elaborates : goal.returns-in_err-elaborated-clause-elaborates
-returns-in_err-elaborated-clause-elaborates c told =
+pub returns-in_err-descriptor-clause-elaborates : goal.returns-in_err-descriptor-clause-elaborates
+returns-in_err-descriptor-clause-elaborates c told =
     let loaded = c.args.loader.now.loaded.entries in
     let t = file_syntax c.args.tree in
     let files = trees_of (named_trees loaded) in
@@ -76,16 +72,16 @@ returns-in_err-elaborated-clause-elaborates c told =
     ∙ (named-length loaded ∙ sym c.len.ensures.len) in
     let tells = c.in_ok-add.ensures files number told in
     let sights = c.in_ok-sights.sights in
-    let err = c.in_err-elaborated.ensures.err (with_next loaded t) tells in
-    let p = err_from_is_err_and c.from_residual-in_err-elaborated.result
-    c.from_residual-in_err-elaborated.ensures.1 in
+    let err = c.in_err-descriptor.ensures.err (with_next loaded t) tells in
+    let p = err_from_is_err_and c.from_residual-in_err-descriptor.result
+    c.from_residual-in_err-descriptor.ensures.1 in
     rw (p.1, p.2) (λ e found named. elim (err e found (named ∙ sym c.deref.ensures)) [
       | inl w ↦
           let stands = subst
           (λ (z : Text). StandsInElab (origin_given z (Some e.outcome))
-          (IsToldOver c.args.gathers loaded (with_next loaded t)
+          (IsToldOver loaded (with_next loaded t)
           (descriptors_next loaded sights.sight.items z t) sights.reach.items sights.sight.items t)
-          c.in_err-elaborated.field-0.0) c.deref.ensures w in
+          c.in_err-descriptor.field-0.0) c.deref.ensures w in
           inl (
             sights.reach.items,
             sights.sight.items,

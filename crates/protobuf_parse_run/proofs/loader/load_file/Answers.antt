@@ -91,12 +91,12 @@ files-init g c =
       inside = λ files kept go good.
           let legal = legal_by g.R.ProtoPathResolver.may_answer g.I.InputReader.may_read
           c.args.sources.now in
-          let k = first-meets c.args.sources.now.gathers legal files kept
+          let k = first-meets legal files kept
           (path_buf_text c.args.input.now)
           (asked_by c.args.fs_path) _ _ _ _ (Ok (met.Opened c.in-Opened.frame)) none good
           (rw c.in-Opened.is at (c.in_ok-first.ensures.leaves files kept go)) in
           rw (empty, same)
-          (running-start c.args.sources.now.gathers legal files kept
+          (running-start legal files kept
           (path_buf_text c.args.input.now)
           (asked_by c.args.fs_path) (path_buf_text c.args.input.now) _ _ _ c.in-Opened.frame _ _
           _ c.meet.ensures.meets k o);
@@ -128,7 +128,7 @@ returns-in_err-met g c = record {
       let p = err_from_is_err_and c.from_residual-in_err-met.result
       c.from_residual-in_err-met.ensures.1 in
       rw (p.1, p.2)
-      (running-stops c.args.sources.now.gathers legal files kept _
+      (running-stops legal files kept _
       (path_buf_text c.args.input.now) c.args.loader.now.meets c.files.stack.items c.files.top
       c.in-Import.import _ (chain_texts c.files.loader.chain.items) _ _ _ c.in_err-met.field-0.0 r
       c.files.invariant.chain at (λ x. c.in_err-met.ensures.leaves files r.now go x));
@@ -144,7 +144,7 @@ returns-in_err-met g c = record {
       let r = c.files.invariant.inside files kept back good in
       let p = err_from_is_err_and c.from_residual-in_err-met.result
       c.from_residual-in_err-met.ensures.1 in
-      rw p.1 (counted-next c.args.sources.now.gathers legal files kept _
+      rw p.1 (counted-next legal files kept _
       (path_buf_text c.args.input.now) c.args.loader.now.meets c.files.stack.items c.files.top
       c.in-Import.import _ _ _ _ r at c.meet-in-files.ensures.meets);
   decided = λ d. c.meet-in-files.ensures.decided (c.files.invariant.decided d);
@@ -213,7 +213,7 @@ files-preserved-in-Continue-branch-5 g c =
           c.args.sources.now in
           let back = goes-back files _ _ _ c.meet-in-files.ensures.grows go in
           let r = c.files.invariant.inside files kept back good in
-          rw same (running-known c.args.sources.now.gathers legal files kept _
+          rw same (running-known legal files kept _
           (path_buf_text c.args.input.now) c.args.loader.now.meets c.files.stack.items
           c.files.top c.join-in-Loaded-met.new.frame c.in-Loaded-met.placed c.in-Import.import _
           _ (chain_texts c.files.loader.chain.items) _ _ _ r c.files.invariant.chain at
@@ -233,7 +233,7 @@ returns-in_err-join-in-Loaded-met g c = record {
       let r = c.files.invariant.inside files kept back good in
       let p = err_from_is_err_and c.from_residual-in_err-join-in-Loaded-met.result
       c.from_residual-in_err-join-in-Loaded-met.ensures.1 in
-      rw p.1 (known-breaks c.args.sources.now.gathers legal files kept _
+      rw p.1 (known-breaks legal files kept _
       (path_buf_text c.args.input.now) c.args.loader.now.meets c.files.stack.items c.files.top
       c.in-Loaded-met.placed (path_buf_text c.in-Import.import.path) _
       (chain_texts c.files.loader.chain.items) _ _ _ p.0 r c.files.invariant.chain
@@ -250,7 +250,7 @@ returns-in_err-join-in-Loaded-met g c = record {
       let r = c.files.invariant.inside files kept back good in
       let p = err_from_is_err_and c.from_residual-in_err-join-in-Loaded-met.result
       c.from_residual-in_err-join-in-Loaded-met.ensures.1 in
-      rw p.1 (counted-next c.args.sources.now.gathers legal files kept _
+      rw p.1 (counted-next legal files kept _
       (path_buf_text c.args.input.now) c.args.loader.now.meets c.files.stack.items c.files.top
       c.in-Import.import _ _ _ _ r at c.meet-in-files.ensures.meets);
   decided = λ d. c.meet-in-files.ensures.decided (c.files.invariant.decided d);
@@ -279,10 +279,10 @@ returns-in_err-push-in-Opened-met g c = record {
       let r = c.files.invariant.inside files kept back good in
       let p = err_from_is_err_and c.from_residual-in_err-push-in-Opened-met.result
       c.from_residual-in_err-push-in-Opened-met.ensures.1 in
-      rw p.1 (running-breaks c.args.sources.now.gathers legal files kept _
+      rw p.1 (running-breaks legal files kept _
       (path_buf_text c.args.input.now) c.args.loader.now.meets
       (c.files.stack.items ++ c.files.top ∷ []) c.in-Opened-met.frame _ _ _ p.0
-      (running-new c.args.sources.now.gathers legal files kept _
+      (running-new legal files kept _
       (path_buf_text c.args.input.now) c.args.loader.now.meets c.files.stack.items c.files.top
       c.in-Opened-met.frame c.in-Import.import _ _
       (chain_texts c.files.loader.chain.items) _ _ _ _ r c.files.invariant.chain at
@@ -300,7 +300,7 @@ returns-in_err-push-in-Opened-met g c = record {
       let r = c.files.invariant.inside files kept back good in
       let p = err_from_is_err_and c.from_residual-in_err-push-in-Opened-met.result
       c.from_residual-in_err-push-in-Opened-met.ensures.1 in
-      rw p.1 (counted-next c.args.sources.now.gathers legal files kept _
+      rw p.1 (counted-next legal files kept _
       (path_buf_text c.args.input.now) c.args.loader.now.meets c.files.stack.items c.files.top
       c.in-Import.import _ _ _ _ r at c.meet-in-files.ensures.meets);
   decided = λ d. c.meet-in-files.ensures.decided (c.files.invariant.decided d);
@@ -417,7 +417,7 @@ files-preserved g c =
           let back = goes-back files _ _ _ c.meet-in-files.ensures.grows go in
           let r = c.files.invariant.inside files kept back good in
           rw (pushed, after, same)
-          (running-new c.args.sources.now.gathers legal files kept _
+          (running-new legal files kept _
           (path_buf_text c.args.input.now) c.args.loader.now.meets c.files.stack.items
           c.files.top c.in-Opened-met.frame c.in-Import.import _ _
           (chain_texts c.files.loader.chain.items) _ _ _ _ r c.files.invariant.chain at
@@ -474,7 +474,7 @@ files-preserved-in_default-statement g c =
       inside = λ files kept go good.
           let legal = legal_by g.R.ProtoPathResolver.may_answer g.I.InputReader.may_read
           c.args.sources.now in
-          running-other c.args.sources.now.gathers legal files kept _
+          running-other legal files kept _
           (path_buf_text c.args.input.now) c.args.loader.now.meets c.files.stack.items
           c.files.top next c.in-Some.statement.now _ _ _
           (c.files.invariant.inside files kept go good) at other is;
@@ -495,7 +495,7 @@ returns-in_err-placed g c = record {
       (among-last (frame_path c.files.top) (chain_of [] c.files.stack.items)) in
       let back = goes-same files _ _ _ reads go in
       let r = c.files.invariant.inside files kept back good in
-      let k = running-closes c.args.sources.now.gathers legal files kept _
+      let k = running-closes legal files kept _
       (path_buf_text c.args.input.now) c.args.loader.now.meets c.files.stack.items c.files.top _ _
       c.elaborate_last.new.loader.loaded.entries _ c.elaborate_last.new.loader.tables _
       (Err c.in_err-placed.field-0.0) r _ _ go c.files.invariant.known c.files.invariant.taken
@@ -504,7 +504,7 @@ returns-in_err-placed g c = record {
       let p = err_from_is_err_and c.from_residual-in_err-placed.result
       c.from_residual-in_err-placed.ensures.1 in
       rw (p.1, p.2, reads)
-      (running-refused c.args.sources.now.gathers legal files kept _
+      (running-refused legal files kept _
       (path_buf_text c.args.input.now) c.args.loader.now.meets c.files.stack.items c.files.top _ _
       _ c.in_err-placed.field-0.0 r le k);
   count = λ files kept go good.
@@ -516,7 +516,7 @@ returns-in_err-placed g c = record {
       let p = err_from_is_err_and c.from_residual-in_err-placed.result
       c.from_residual-in_err-placed.ensures.1 in
       rw (p.1, c.elaborate_last.ensures.meets)
-      (counted-now c.args.sources.now.gathers legal files kept _
+      (counted-now legal files kept _
       (path_buf_text c.args.input.now) c.args.loader.now.meets c.files.stack.items c.files.top _ _
       _ r);
   decided = λ d.
@@ -549,14 +549,14 @@ returns-in_default-pop g c = record {
       (among-last (frame_path c.files.top) (chain_of [] c.files.stack.items)) in
       let back = goes-same files _ _ _ reads go in
       let r = c.files.invariant.inside files kept back good in
-      let k = running-closes c.args.sources.now.gathers legal files kept _
+      let k = running-closes legal files kept _
       (path_buf_text c.args.input.now) c.args.loader.now.meets c.files.stack.items c.files.top _ _
       c.elaborate_last.new.loader.loaded.entries _ c.elaborate_last.new.loader.tables _
       (Ok c.in_ok-placed.placed) r _ _ go c.files.invariant.known c.files.invariant.taken none
       c.files.invariant.off le (omega (arith, c.files.invariant.low))
       (c.in_ok-placed.ensures.elaborates c.files.invariant.known.tells) in
       rw reads
-      (running-end c.args.sources.now.gathers legal files kept _
+      (running-end legal files kept _
       (path_buf_text c.args.input.now) c.args.loader.now.meets c.files.stack.items c.files.top
       c.in_ok-placed.placed _ _ _ _ r empty le k);
   count = λ files kept go good.
@@ -571,7 +571,7 @@ returns-in_default-pop g c = record {
       let back = goes-same files _ _ _ reads go in
       let r = (rw empty at (c.files.invariant.inside files kept back good)) in
       rw c.elaborate_last.ensures.meets
-      (counted-end c.args.sources.now.gathers legal files kept _
+      (counted-end legal files kept _
       (path_buf_text c.args.input.now) c.args.loader.now.meets c.files.top _ _ _ r le);
   decided = λ d.
       let reads = ap (λ (w : Vec ReadEntry). w.items) c.elaborate_last.ensures.reads in
@@ -580,7 +580,7 @@ returns-in_default-pop g c = record {
       let le : length c.files.top.tree.statements.items
       ≤ c.files.top.next = (rw c.deref.ensures.value at c.in_default.ensures.lookup.3) in
       let reads = ap (λ (w : Vec ReadEntry). w.items) c.elaborate_last.ensures.reads in
-      let cl = closed-is c.args.sources.now.gathers c.files.top _ _ _ _ _
+      let cl = closed-is c.files.top _ _ _ _ _
       (chain_of [] c.files.stack.items) c.in_ok-placed.placed c.files.invariant.known
       c.files.invariant.taken c.files.invariant.unloaded c.files.invariant.off le
       (c.in_ok-placed.ensures.elaborates c.files.invariant.known.tells) in
@@ -614,7 +614,7 @@ files-preserved-in_default g c =
     let le : length c.files.top.tree.statements.items
     ≤ c.files.top.next = (rw c.deref.ensures.value at c.in_default.ensures.lookup.3) in
     let reads = ap (λ (w : Vec ReadEntry). w.items) c.elaborate_last.ensures.reads in
-    let cl = closed-is c.args.sources.now.gathers c.files.top _ _ _ _ _
+    let cl = closed-is c.files.top _ _ _ _ _
     (chain_of [] c.files.stack.items) c.in_ok-placed.placed c.files.invariant.known
     c.files.invariant.taken c.files.invariant.unloaded c.files.invariant.off le
     (c.in_ok-placed.ensures.elaborates c.files.invariant.known.tells) in
@@ -676,7 +676,7 @@ files-preserved-in_default g c =
           (among-last (frame_path c.files.top) (chain_of [] c.files.stack.items)) in
           let back = goes-same files _ _ _ reads go in
           let r = c.files.invariant.inside files kept back good in
-          let k = running-closes c.args.sources.now.gathers legal files kept _
+          let k = running-closes legal files kept _
           (path_buf_text c.args.input.now) c.args.loader.now.meets c.files.stack.items
           c.files.top _ _ c.elaborate_last.new.loader.loaded.entries _
           c.elaborate_last.new.loader.tables _
@@ -684,7 +684,7 @@ files-preserved-in_default g c =
           none c.files.invariant.off le (omega (arith, c.files.invariant.low))
           (c.in_ok-placed.ensures.elaborates c.files.invariant.known.tells) in
           rw (reads, c.elaborate_last.ensures.meets)
-          (running-close c.args.sources.now.gathers legal files kept _
+          (running-close legal files kept _
           (path_buf_text c.args.input.now) c.args.loader.now.meets c.pop.new.self.items
           c.files.stack.items c.files.top c.in-Some-pop.parent c.join.new.frame
           c.in_ok-placed.placed w.1.import _ _ _ _ r s le k w.1.at w.1.named j);
@@ -705,7 +705,7 @@ returns-in_err-join g c = record {
       (among-last (frame_path c.files.top) (chain_of [] c.files.stack.items)) in
       let back = goes-same files _ _ _ reads go in
       let r = c.files.invariant.inside files kept back good in
-      let k = running-closes c.args.sources.now.gathers legal files kept _
+      let k = running-closes legal files kept _
       (path_buf_text c.args.input.now) c.args.loader.now.meets c.files.stack.items c.files.top _ _
       c.elaborate_last.new.loader.loaded.entries _ c.elaborate_last.new.loader.tables _
       (Ok c.in_ok-placed.placed) r _ _ go c.files.invariant.known c.files.invariant.taken none
@@ -714,7 +714,7 @@ returns-in_err-join g c = record {
       let p = err_from_is_err_and c.from_residual-in_err-join.result
       c.from_residual-in_err-join.ensures.1 in
       rw (p.1, reads)
-      (closed-breaks c.args.sources.now.gathers legal files kept _
+      (closed-breaks legal files kept _
       (path_buf_text c.args.input.now) c.args.loader.now.meets c.files.stack.items c.files.top
       c.in_ok-placed.placed _ _ _ _ p.0 r le k p.2);
   count = λ files kept go good.
@@ -726,7 +726,7 @@ returns-in_err-join g c = record {
       let p = err_from_is_err_and c.from_residual-in_err-join.result
       c.from_residual-in_err-join.ensures.1 in
       rw (p.1, c.elaborate_last.ensures.meets)
-      (counted-now c.args.sources.now.gathers legal files kept _
+      (counted-now legal files kept _
       (path_buf_text c.args.input.now) c.args.loader.now.meets c.files.stack.items c.files.top _ _
       _ r);
   decided = λ d.

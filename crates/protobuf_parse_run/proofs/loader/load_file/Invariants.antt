@@ -31,9 +31,9 @@ invariant-files g l =
           ≤ l.fn.loader.meets + 1 + length l.loader.reads.items * 2 ^ 64;
       inside : (files : Files) (kept : List Event)
           → GoesOn files (rows l.sources.bundled.now) l.loader.reads.items
-          → Good l.sources.gathers legal files kept l.fn.loader.loaded.entries
+          → Good legal files kept l.fn.loader.loaded.entries
           l.fn.loader.reads.items []
-          → IsRunning l.sources.gathers legal files kept
+          → IsRunning legal files kept
           (keep kept
           (walk files.trees (path_buf_text l.input) (asked_by l.fs_path) 100 []
           (path_buf_text l.input))) (path_buf_text l.input) l.fn.loader.meets l.loader.meets

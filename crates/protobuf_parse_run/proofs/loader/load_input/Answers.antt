@@ -18,14 +18,12 @@ returns-in-Named g c = record {
   bound = search rules;
   goes = λ files kept go good.
       input-ends
-      c.args.sources.now.gathers
       (legal_by g.R.ProtoPathResolver.may_answer g.I.InputReader.may_read c.args.sources.now)
       files _ kept kept (named (path_buf_text c.in-Named.name)) _ _ _
       (ap input_view c.in-Named.is) (sym (append-nil kept))
       (c.load_file.ensures.goes files kept go good);
   count = λ files kept go good.
       count-input
-      c.args.sources.now.gathers
       (legal_by g.R.ProtoPathResolver.may_answer g.I.InputReader.may_read c.args.sources.now)
       files _ kept kept (named (path_buf_text c.in-Named.name)) _ _ _ _
       (ap input_view c.in-Named.is) (sym (append-nil kept)) refl
@@ -49,7 +47,7 @@ returns-in_err-check_loaded-in-At g c = record {
       let name = path_buf_text c.in-At.name in
       let p = err_from_is_err_and c.from_residual.result c.from_residual.ensures.1 in
       rw (p.1, p.2)
-      (check-stops _ _ files kept (at name c.deref.result.now) _ _
+      (check-stops _ files kept (at name c.deref.result.now) _ _
       c.in_err-check_loaded-in-At.field-0.0
       (ap input_view c.in-At.is ∙ ap (at name) (sym c.deref.ensures))
       (c.in_err-check_loaded-in-At.ensures.goes files kept go good));
@@ -72,7 +70,6 @@ returns-in_ok-check_loaded-in-At g c = record {
       let base = ap (λ z. kept ++ checks kept (at name z))
       (c.deref.ensures ∙ sym c.as_str.ensures.value) in
       input-ends
-      c.args.sources.now.gathers
       (legal_by g.R.ProtoPathResolver.may_answer g.I.InputReader.may_read c.args.sources.now)
       files _ kept _ (at name c.as_str.result.now) _ _ _
       (ap input_view c.in-At.is ∙ ap (at name) (sym c.as_str.ensures.value)) base
@@ -84,7 +81,6 @@ returns-in_ok-check_loaded-in-At g c = record {
       let base = ap (λ z. kept ++ checks kept (at name z))
       (c.deref.ensures ∙ sym c.as_str.ensures.value) in
       count-input
-      c.args.sources.now.gathers
       (legal_by g.R.ProtoPathResolver.may_answer g.I.InputReader.may_read c.args.sources.now)
       files _ kept _ (at name c.as_str.result.now) _ _ _ _
       (ap input_view c.in-At.is ∙ ap (at name) (sym c.as_str.ensures.value)) base

@@ -17,7 +17,7 @@ loop-input-init g c = record {
   bound = omega (arith, c.requires.meets);
   decided = rw c.requires.reads (decided-none (rows c.args.sources.now.bundled.now));
   inside = λ files go. rw (c.requires.loaded, c.requires.reads, events-none files.trees [])
-      (good-start _ _ files);
+      (good-start _ files);
   known = known-none _ _ _ c.requires.loaded c.requires.names c.requires.spots;
   count = λ files go. rw (c.requires.meets, events-none files.trees []) refl;
 }
@@ -34,7 +34,7 @@ returns-in_err-load_input g c = record {
       (omega arith) c.input-item.is in
       let p = err_from_is_err_and c.from_residual.result c.from_residual.ensures.1 in
       rw (p.1, p.2)
-      (inputs-stop _ _ files _ _ _ _ _ c.in_err-load_input.field-0.0 is
+      (inputs-stop _ files _ _ _ _ _ c.in_err-load_input.field-0.0 is
       (c.in_err-load_input.ensures.goes files _ go good));
   count = λ files go.
       let xs = c.args.inputs.now in
@@ -45,7 +45,6 @@ returns-in_err-load_input g c = record {
       let all = length-map xs input_view in
       let p = err_from_is_err_and c.from_residual.result c.from_residual.ensures.1 in
       rw p.1 (count-inputs-stop
-      c.args.sources.now.gathers
       (legal_by g.R.ProtoPathResolver.may_answer g.I.InputReader.may_read c.args.sources.now)
       files _ _ _ _ _ _ _ _ is (omega (arith, all)) (c.loop-input.invariant.count files back)
       (c.in_err-load_input.ensures.count files _ go good));
@@ -63,7 +62,7 @@ loop-input-preserved g c =
           let good = c.loop-input.invariant.inside files back in
           let next = next-at input_view xs c.loop-input.input-index c.input-item.result
           (omega arith) c.input-item.is in
-          inputs-step c.args.sources.now.gathers _ files _ _ _ _ _ next
+          inputs-step _ files _ _ _ _ _ next
           (c.in_ok-load_input.ensures.goes files _ go good);
       known = c.in_ok-load_input.ensures.known;
       count = λ files go.
@@ -72,7 +71,6 @@ loop-input-preserved g c =
           let next = next-at input_view xs c.loop-input.input-index c.input-item.result
           (omega arith) c.input-item.is in
           count-inputs
-          c.args.sources.now.gathers
           (legal_by g.R.ProtoPathResolver.may_answer g.I.InputReader.may_read
           c.args.sources.now) files _ _ _ _ _ _
           next (c.loop-input.invariant.count files back)

@@ -11,8 +11,7 @@ invariant-loop-input g l =
       bound : l.loader.meets ≤ l.input-index + length l.loader.reads.items * 2 ^ 64;
       decided : IsDecided (rows l.sources.bundled.now) l.loader.reads.items;
       inside : (files : Files) → GoesOn files (rows l.sources.bundled.now) l.loader.reads.items
-          → Good l.sources.gathers
-          (legal_by g.R.ProtoPathResolver.may_answer g.I.InputReader.may_read l.sources)
+          → Good (legal_by g.R.ProtoPathResolver.may_answer g.I.InputReader.may_read l.sources)
           files (events files.trees (map input_view (take l.input-index l.inputs)))
           l.loader.loaded.entries l.loader.reads.items [];
       known : AreKnown l.loader.loaded.entries l.loader.tables l.loader.reads.items;

@@ -31,7 +31,7 @@ returns-then-is_on_chain g c = record {
       ≡ true =
       chain-told _ _ _ _ c.is_on_chain.result true refl c.deref.ensures.value
       c.is_on_chain.ensures c.if-is_on_chain.true in
-      leaves-cycle _ _ files kept _ _ _ (path_buf_text c.args.input.now)
+      leaves-cycle _ files kept _ _ _ (path_buf_text c.args.input.now)
       (asked_by c.args.fs_path) _ _ _ _ text_is good on c.cycle.ensures;
 }
 
@@ -47,7 +47,7 @@ returns-then-placed-len g c = record {
       let text_is : c.to_str-text.result.now
       ≡ path_buf_text c.args.path.now = c.to_str-text.ensures.text ∙ c.as_path.ensures in
       let n = texts-length c.args.loader.now.chain.items in
-      leaves-tall _ _ files kept _ _ _ (path_buf_text c.args.input.now)
+      leaves-tall _ files kept _ _ _ (path_buf_text c.args.input.now)
       (asked_by c.args.fs_path) _ _ _ c.in-Some.placed _ text_is good c.in-Some.ensures
       (omega (arith, n, c.if-placed-len.true, c.len.ensures)) c.too_long.ensures;
 }
@@ -76,7 +76,7 @@ returns-in-Some g c = record {
       let text_is : c.to_str-text.result.now
       ≡ path_buf_text c.args.path.now = c.to_str-text.ensures.text ∙ c.as_path.ensures in
       let n = texts-length c.args.loader.now.chain.items in
-      met-known _ _ files kept _ _ _ (path_buf_text c.args.input.now)
+      met-known _ files kept _ _ _ (path_buf_text c.args.input.now)
       (asked_by c.args.fs_path) _ _ c.in-Some.placed text_is good c.in-Some.ensures
       (omega (arith, n, c.if-placed-len.false, c.len.ensures));
 }
@@ -97,7 +97,7 @@ returns-then-len-eq-MAX_CHAIN g c = record {
       ≡ false =
       chain-told _ _ _ _ c.is_on_chain.result false refl c.deref.ensures.value
       c.is_on_chain.ensures c.if-is_on_chain.false in
-      leaves-full _ _ files kept _ _ _ (path_buf_text c.args.input.now)
+      leaves-full _ files kept _ _ _ (path_buf_text c.args.input.now)
       (asked_by c.args.fs_path) _ _ _ _ text_is
       (omega (arith, n, c.if-len-eq-MAX_CHAIN.true, c.len-2.ensures)) good off
       c.too_long-then-len-eq-MAX_CHAIN.ensures;
@@ -134,7 +134,7 @@ returns-in_err-tree g c = record {
       c.in_default.ensures in
       let p = err_from_is_err_and c.from_residual.result c.from_residual.ensures.1 in
       rw (p.1, p.2)
-      (leaves-read _ _ files _ kept _ _ _ _ (path_buf_text c.args.input.now)
+      (leaves-read _ files _ kept _ _ _ _ (path_buf_text c.args.input.now)
       (asked_by c.args.fs_path) _ c.in_err-tree.field-0.0 go good off none
       (omega (arith, n, c.if-len-eq-MAX_CHAIN.false, c.len-2.ensures, c.requires.chain))
       c.in_err-tree.ensures.read);
@@ -168,7 +168,7 @@ returns-in_err-enter g c = record {
       c.in_default.ensures in
       let p = err_from_is_err_and c.from_residual-in_err-enter.result
       c.from_residual-in_err-enter.ensures.1 in
-      rw p.1 (met-breaks _ _ files _ kept _ _ _ _
+      rw p.1 (met-breaks _ files _ kept _ _ _ _
       (asked_by c.args.fs_path) _ c.in_ok-tree.tree go good off none c.in_ok-tree.ensures.read
       (path_buf_text c.args.input.now) p.0
       (omega (arith, n, c.if-len-eq-MAX_CHAIN.false, c.len-2.ensures, c.requires.chain)) p.2);
@@ -202,7 +202,7 @@ returns-in_err-from_str g c = record {
       c.in_default.ensures in
       let p = err_from_is_err_and c.from_residual-in_err-from_str.result
       c.from_residual-in_err-from_str.ensures.1 in
-      rw p.1 (met-breaks _ _ files _ kept _ _ _ _
+      rw p.1 (met-breaks _ files _ kept _ _ _ _
       (asked_by c.args.fs_path) _ c.in_ok-tree.tree go good off none c.in_ok-tree.ensures.read
       (path_buf_text c.args.input.now) p.0
       (omega (arith, n, c.if-len-eq-MAX_CHAIN.false, c.len-2.ensures, c.requires.chain)) p.2);
@@ -262,7 +262,7 @@ returns g c = record {
       ≡ None =
       subst (λ (z : Text). file_at z c.args.loader.now.loaded.entries ≡ None) text_is
       c.in_default.ensures in
-      met-new _ _ files _ kept _ _ _ _
+      met-new _ files _ kept _ _ _ _
       (asked_by c.args.fs_path) _ c.in_ok-tree.tree go good off none
       c.in_ok-tree.ensures.read _ (c.in_ok-from_str.ensures.ok ∙ text_is) refl
       (omega (arith, c.len-read.ensures, c.args.loader.now.reads.ok.0)) refl refl;
