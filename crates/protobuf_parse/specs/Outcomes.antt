@@ -1,22 +1,22 @@
 -- No public clause rests on this file.
 -- What runs and checks over folders answer, or that memory ran out.
-use Rattle.std.specs.Prelude.{List, Result, Ok, Err}
+use Rattle.std.specs.Prelude.{◌≡◌, List, Result, Ok, Err}
 use Rattle.std.specs.Global.{Vec}
 use Rattle.protobuf_parse_model.specs.Descriptors.{Text}
 use Rattle.protobuf_parse_model.specs.declared.descriptor.FileDescriptorProto.{FileDescriptorProto}
 use Rattle.protobuf_parse_run.specs.declared.fault.RunFault.{RunFault}
-use Rattle.protobuf_parse_run.specs.declared.log.FileReport.{FileReport}
+use Rattle.protobuf_parse_run.specs.declared.fault.RunFault.TheVariants as fault
 use Rattle.protobuf_parse_run.specs.Run.{OrMemory}
+use Rattle.protobuf_parse_check.specs.declared.report.Check.{Check}
 use Rattle.protobuf_parse.specs.Checking.{ChecksOverFolders}
 use Rattle.protobuf_parse.specs.Parsers.{RunsOverFolders}
 
 -- or memory ran out
 abbrev pub CheckedOverFolders : List (Text × Text) → List Text → List Text → List Text
-    → Result (Vec FileReport) RunFault → Type 0
-CheckedOverFolders bundled includes inputs names (Ok reports) =
-    ChecksOverFolders bundled includes inputs names (Ok reports)
-CheckedOverFolders bundled includes inputs names (Err f) =
-    OrMemory f (ChecksOverFolders bundled includes inputs names (Err f))
+    → Result Check RunFault → Type 0
+CheckedOverFolders bundled includes inputs names (Ok check) =
+    ChecksOverFolders bundled includes inputs names check
+CheckedOverFolders bundled includes inputs names (Err f) = f ≡ fault.Memory
 
 -- or memory ran out
 abbrev pub RanOverFolders : List (Text × Text) → List Text → List Text → List Text

@@ -7,46 +7,113 @@ pub mod pure;
 pub mod trees;
 
 pub use laws::numbers_are_apart_in_runs;
-pub use parser::{
-    FsReader, FsResolver, ParsedAndTypechecked, Parser, fs_resolver, program, proto_path_of, search,
-};
+pub use parser::FsReader;
+pub use parser::FsResolver;
+pub use parser::ParsedAndTypechecked;
+pub use parser::Parser;
+pub use parser::files_of_inputs;
+pub use parser::fs_resolver;
+pub use parser::program;
+pub use parser::proto_path_of;
+pub use parser::search;
 pub use protobuf_parse_base::Name;
-pub use protobuf_parse_base::names::laws::{
-    into_absolute_undoes_to_root_rel, pop_undoes_push, remove_undoes_concat,
-};
-pub use protobuf_parse_base::names::{
-    Components, ProtobufAbsPath, ProtobufAbsPathRef, ProtobufIdent, ProtobufIdentRef,
-    ProtobufRelPath, ProtobufRelPathRef,
-};
-pub use protobuf_parse_base::proto_path::{PathError, ProtoPath, ProtoPathBuf};
-pub use protobuf_parse_base::text::{camel_case, snake_case};
-pub use protobuf_parse_descriptor_set::{
-    custom_options_are_fields, descriptor_set, oneofs_are_moved,
-};
-pub use protobuf_parse_elaboration::{
-    custom_options_are_of_sets, types_are_declared, types_are_looked_up,
-};
+pub use protobuf_parse_base::names::Components;
+pub use protobuf_parse_base::names::ProtobufAbsPath;
+pub use protobuf_parse_base::names::ProtobufAbsPathRef;
+pub use protobuf_parse_base::names::ProtobufIdent;
+pub use protobuf_parse_base::names::ProtobufIdentRef;
+pub use protobuf_parse_base::names::ProtobufRelPath;
+pub use protobuf_parse_base::names::ProtobufRelPathRef;
+pub use protobuf_parse_base::names::laws::into_absolute_undoes_to_root_rel;
+pub use protobuf_parse_base::names::laws::pop_undoes_push;
+pub use protobuf_parse_base::names::laws::remove_undoes_concat;
+pub use protobuf_parse_base::proto_path::PathError;
+pub use protobuf_parse_base::proto_path::ProtoPath;
+pub use protobuf_parse_base::proto_path::ProtoPathBuf;
+pub use protobuf_parse_base::text::camel_case;
+pub use protobuf_parse_base::text::snake_case;
+pub use protobuf_parse_check::Check;
+pub use protobuf_parse_check::CheckLog;
+pub use protobuf_parse_check::FileReport;
+pub use protobuf_parse_check::FileState;
+pub use protobuf_parse_check::InputFault;
+pub use protobuf_parse_check::check_inputs;
+pub use protobuf_parse_descriptor_set::custom_options_are_fields;
+pub use protobuf_parse_descriptor_set::descriptor_set;
+pub use protobuf_parse_descriptor_set::oneofs_are_moved;
+pub use protobuf_parse_elaboration::custom_options_are_of_sets;
+pub use protobuf_parse_elaboration::types_are_declared;
+pub use protobuf_parse_elaboration::types_are_looked_up;
 pub use protobuf_parse_google::google_files;
-pub use protobuf_parse_listing::{builtin_options_are_listed, listing};
-pub use protobuf_parse_model::{
-    CType, DescriptorProto, ElabError, ElabErrorKind, EnumDescriptorProto, EnumOptions,
-    EnumReservedRange, EnumValueDescriptorProto, EnumValueOptions, ExtensionRange,
-    FieldDescriptorProto, FieldOptions, FieldType, FileDescriptorProto, FileDescriptorSet,
-    FileOptions, IdempotencyLevel, JSType, Label, MessageOptions, MethodDescriptorProto,
-    MethodOptions, OneofDescriptorProto, OneofOptions, OptimizeMode, ReservedRange,
-    ServiceDescriptorProto, ServiceOptions,
-};
-pub use protobuf_parse_options::{extensions_are_looked_up, never_too_deep, options_are_not_read};
-pub use protobuf_parse_rules::{
-    NamedKind, Rule, Violation, numbers_are_apart, numbers_are_unique, violations,
-};
-pub use protobuf_parse_run::{
-    CheckLog, FileReport, InputReader, ProtoPathResolver, ReadEntry, ReadInputFault, ReadOutcome,
-    ResolveFault, ResolvedProtoFile, RunFault, RunInput, RunLog, bundled_files, check_inputs,
-    custom_bytes_stand, files_come_once, run_inputs, runs_are_stable, seen_files_are_reached,
-};
-pub use protobuf_parse_syntax::{ParserError, ParserErrorWithLocation, Place};
-pub use protobuf_parse_wire::{
-    ReadFault, ReadField, ReadValue, read_custom, reader_reads_records, reader_reads_varints,
-    spelled_is_read,
-};
+pub use protobuf_parse_listing::builtin_options_are_listed;
+pub use protobuf_parse_listing::listing;
+pub use protobuf_parse_load::Asker;
+pub use protobuf_parse_load::LoadStep;
+pub use protobuf_parse_load::Unfollowed;
+pub use protobuf_parse_load::UnreadFile;
+pub use protobuf_parse_load::held_inputs_are_read;
+pub use protobuf_parse_load::loads_leave_nothing_out;
+pub use protobuf_parse_load::runs_are_fronts_of_loads;
+pub use protobuf_parse_model::CType;
+pub use protobuf_parse_model::DescriptorProto;
+pub use protobuf_parse_model::ElabError;
+pub use protobuf_parse_model::ElabErrorKind;
+pub use protobuf_parse_model::EnumDescriptorProto;
+pub use protobuf_parse_model::EnumOptions;
+pub use protobuf_parse_model::EnumReservedRange;
+pub use protobuf_parse_model::EnumValueDescriptorProto;
+pub use protobuf_parse_model::EnumValueOptions;
+pub use protobuf_parse_model::ExtensionRange;
+pub use protobuf_parse_model::FieldDescriptorProto;
+pub use protobuf_parse_model::FieldOptions;
+pub use protobuf_parse_model::FieldType;
+pub use protobuf_parse_model::FileDescriptorProto;
+pub use protobuf_parse_model::FileDescriptorSet;
+pub use protobuf_parse_model::FileOptions;
+pub use protobuf_parse_model::IdempotencyLevel;
+pub use protobuf_parse_model::JSType;
+pub use protobuf_parse_model::Label;
+pub use protobuf_parse_model::MessageOptions;
+pub use protobuf_parse_model::MethodDescriptorProto;
+pub use protobuf_parse_model::MethodOptions;
+pub use protobuf_parse_model::OneofDescriptorProto;
+pub use protobuf_parse_model::OneofOptions;
+pub use protobuf_parse_model::OptimizeMode;
+pub use protobuf_parse_model::ReservedRange;
+pub use protobuf_parse_model::ServiceDescriptorProto;
+pub use protobuf_parse_model::ServiceOptions;
+pub use protobuf_parse_options::extensions_are_looked_up;
+pub use protobuf_parse_options::never_too_deep;
+pub use protobuf_parse_options::options_are_not_read;
+pub use protobuf_parse_rules::NamedKind;
+pub use protobuf_parse_rules::Rule;
+pub use protobuf_parse_rules::Violation;
+pub use protobuf_parse_rules::numbers_are_apart;
+pub use protobuf_parse_rules::numbers_are_unique;
+pub use protobuf_parse_rules::violations;
+pub use protobuf_parse_run::InputReader;
+pub use protobuf_parse_run::ProtoPathResolver;
+pub use protobuf_parse_run::ReadEntry;
+pub use protobuf_parse_run::ReadInputFault;
+pub use protobuf_parse_run::ReadOutcome;
+pub use protobuf_parse_run::ResolveFault;
+pub use protobuf_parse_run::ResolvedProtoFile;
+pub use protobuf_parse_run::RunFault;
+pub use protobuf_parse_run::RunInput;
+pub use protobuf_parse_run::RunLog;
+pub use protobuf_parse_run::bundled_files;
+pub use protobuf_parse_run::custom_bytes_stand;
+pub use protobuf_parse_run::files_come_once;
+pub use protobuf_parse_run::run_inputs;
+pub use protobuf_parse_run::runs_are_stable;
+pub use protobuf_parse_run::seen_files_are_reached;
+pub use protobuf_parse_syntax::ParserError;
+pub use protobuf_parse_syntax::ParserErrorWithLocation;
+pub use protobuf_parse_syntax::Place;
+pub use protobuf_parse_wire::ReadFault;
+pub use protobuf_parse_wire::ReadField;
+pub use protobuf_parse_wire::ReadValue;
+pub use protobuf_parse_wire::read_custom;
+pub use protobuf_parse_wire::reader_reads_records;
+pub use protobuf_parse_wire::reader_reads_varints;
+pub use protobuf_parse_wire::spelled_is_read;

@@ -6,7 +6,7 @@ mod files;
 mod includes;
 pub mod search;
 
-pub use builder::{ParsedAndTypechecked, Parser};
+pub use builder::{ParsedAndTypechecked, Parser, files_of_inputs};
 pub use command::program;
 pub use files::{FsReader, FsResolver, fs_resolver};
 pub use includes::proto_path_of;

@@ -1,0 +1,3 @@
+pub mod Made
+pub mod Sound
+pub mod Checked

@@ -3,16 +3,15 @@
 
 mod arguments;
 mod check;
-mod faults;
 mod inputs;
 mod listed;
 mod made;
 mod reading;
+mod rules;
 mod run;
 mod shadow;
-mod survey;
+mod sound;
 mod told;
-mod unread;
 mod words;
 
 pub use run::{command, run_program};

@@ -3,9 +3,8 @@
 use crate::arguments::Arguments;
 use crate::inputs::input_of;
 use crate::reading::Folders;
-use crate::unread::fault_told;
 use protobuf_parse::{ReadEntry, RunFault, RunInput, google_files};
-use protobuf_parse_diagnostics::{Diagnostic, Sources, arrange};
+use protobuf_parse_diagnostics::{Diagnostic, Sources, add_reason, arrange, fault_diagnostic};
 use protobuf_parse_run::InputRead;
 use protobuf_parse_syntax::{FileStatement, FileTree, ImportVis};
 use std::alloc::{AllocError, Global};
@@ -49,9 +48,9 @@ fn add_fault<R: Files + AllocGlobal>(
     imports: &mut Imports,
 ) -> Result<(), AllocError> {
     let sources = Sources::of_reads(alloc, reads, google_files())?;
-    imports
-        .told
-        .push(fault_told(folders, alloc, &sources, fault)?)?;
+    let mut told = fault_diagnostic(alloc, &sources, fault)?;
+    add_reason(alloc, folders, fault, &mut told)?;
+    imports.told.push(told)?;
     Ok(())
 }
 

@@ -1,13 +1,16 @@
 //! What a run writes, all of it made before any is written.
 
+ghost use Rattle.std.specs.Prelude.{◌≡◌, IfOk, None, [], true, false, string_bytes};
+ghost use Rattle.std.specs.List.{list_any};
+ghost use Rattle.protobuf_parse_command.specs.Made.{IsSetAsked, is_error};
+
 use crate::arguments::Arguments;
 use crate::check::{Checked, check_files};
-use crate::listed::imports_of_files;
+use crate::listed::{Imports, imports_of_files};
 use crate::told::{has_error, lines_of};
-use protobuf_parse::{FileDescriptorProto, listing};
+use protobuf_parse::{FileDescriptorProto, ProtoPathBuf, files_of_inputs, listing};
 use protobuf_parse_descriptor_set::descriptor_set;
 use std::alloc::{AllocError, Global};
-use std::collections::BTreeSet;
 use std::rt::Files;
 
 /// What a run writes.
@@ -33,7 +36,7 @@ pub fn make<R: Files + AllocGlobal>(
     if arguments.imports {
         make_imports(rt, alloc, arguments)
     } else {
-        make_checked(rt, alloc, arguments)
+        made_of(alloc, arguments, check_files(rt, alloc, arguments)?)
     }
 }
 
@@ -43,67 +46,70 @@ fn make_imports<R: Files + AllocGlobal>(
     alloc: Global,
     arguments: &Arguments,
 ) -> Result<Made, AllocError> {
-    let imports = imports_of_files(rt, alloc, arguments)?;
+    let Imports { told, text } = imports_of_files(rt, alloc, arguments)?;
+    let has_error = has_error(&told);
     Ok(Made {
-        told: lines_of(alloc, &imports.told, false)?,
-        has_error: has_error(&imports.told),
+        told: lines_of(alloc, &told)?,
+        has_error,
         set: None,
-        text: imports.text,
+        text: if has_error { String::new(alloc) } else { text },
     })
 }
 
-/// Without `--imports`.
-fn make_checked<R: Files + AllocGlobal>(
-    rt: &R,
-    alloc: Global,
-    arguments: &Arguments,
-) -> Result<Made, AllocError> {
+/// What is made of a check: the lines of what is told; where no error is, the set and the listing,
+/// each if it is asked for.
+pub fn made_of(alloc: Global, arguments: &Arguments, checked: Checked) -> Result<Made, AllocError>
+    ensures error { IfOk result (λ made. made.has_error ≡ list_any is_error checked.told.items) }
+    ensures silent { IfOk result (λ made. made.has_error ≡ true
+        → (made.set ≡ None) × (string_bytes made.text ≡ [])) }
+    ensures set { IfOk result (λ made. made.has_error ≡ false
+        → IsSetAsked arguments.now checked.inputs.items checked.files.items made.set) }
+    ensures unasked { IfOk result (λ made. arguments.now.list ≡ false
+        → string_bytes made.text ≡ []) }
+{
     let Checked {
         told,
-        is_cut,
         files,
         inputs,
-    } = check_files(rt, alloc, arguments)?;
-    let mut made = Made {
-        told: lines_of(alloc, &told, is_cut)?,
-        has_error: has_error(&told),
-        set: None,
-        text: String::new(alloc),
+    } = checked;
+    let lines = lines_of(alloc, &told)?;
+    if has_error(&told) {
+        return Ok(Made {
+            told: lines,
+            has_error: true,
+            set: None,
+            text: String::new(alloc),
+        });
+    }
+    let text = if arguments.list {
+        listing(alloc, &files)?
+    } else {
+        String::new(alloc)
     };
-    if made.has_error {
-        return Ok(made);
-    }
-    if arguments.list {
-        made.text = listing(alloc, &files)?;
-    }
-    if arguments.set_path.is_some() {
-        made.set = Some(set_of(alloc, arguments, files, &inputs)?);
-    }
-    Ok(made)
+    Ok(Made {
+        told: lines,
+        has_error: false,
+        set: set_of(alloc, arguments, &inputs, files)?,
+        text,
+    })
 }
 
-/// The descriptor set of the inputs, or with imports of all files.
+/// The descriptor set, where one is asked for: of the inputs, or with imports of all files.
 fn set_of(
     alloc: Global,
     arguments: &Arguments,
+    inputs: &[ProtoPathBuf],
     files: Vec<FileDescriptorProto>,
-    inputs: &BTreeSet<String>,
-) -> Result<Vec<u8>, AllocError> {
-    if arguments.include_imports {
-        return descriptor_set(alloc, &files);
+) -> Result<Option<Vec<u8>>, AllocError>
+    ensures { IfOk result (IsSetAsked arguments.now inputs.now files.items) }
+{
+    if arguments.set_path.is_none() {
+        return Ok(None);
     }
-    let mut kept = Vec::new(alloc);
-    for file in files {
-        if is_input(inputs, &file) {
-            kept.push(file)?;
-        }
-    }
-    descriptor_set(alloc, &kept)
-}
-
-fn is_input(inputs: &BTreeSet<String>, file: &FileDescriptorProto) -> bool {
-    match &file.name {
-        Some(name) => inputs.contains(name.as_str()),
-        None => false,
-    }
+    let chosen = if arguments.include_imports {
+        files
+    } else {
+        files_of_inputs(alloc, inputs, files)?
+    };
+    Ok(Some(descriptor_set(alloc, &chosen)?))
 }

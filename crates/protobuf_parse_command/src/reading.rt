@@ -1,4 +1,4 @@
-//! The files of a command line, and what they import: by runs, by checks, and one at a time.
+//! The files of a command line, and what they import: by checks, and one at a time.
 
 ghost use Rattle.std.specs.Prelude.{Some, map, string_bytes};
 ghost use Rattle.protobuf_parse.specs.Folders.{IsTriedAt, MayFind, path_tried};
@@ -6,13 +6,14 @@ ghost use Rattle.protobuf_parse.specs.Folders.{IsTriedAt, MayFind, path_tried};
 use protobuf_parse::search::{LooksInIncludes, first_found, join_include};
 use protobuf_parse::{
     CheckLog, InputReader, ProtoPath, ProtoPathResolver, ReadInputFault, ResolveFault,
-    ResolvedProtoFile, RunInput, RunLog, check_inputs, fs_resolver, google_files, run_inputs,
+    ResolvedProtoFile, RunInput, check_inputs, fs_resolver, google_files,
 };
+use protobuf_parse_diagnostics::{Reason, Reasons};
 use protobuf_parse_files::{FileRead, KeptFiles};
 use protobuf_parse_run::{InputRead, read_input};
 use std::alloc::{AllocError, Global};
 use std::fmt;
-use std::io::{self, ErrorKind};
+use std::io::ErrorKind;
 use std::rt::Files;
 
 /// The most bytes that a text may have.
@@ -48,11 +49,6 @@ impl<'r, R: Files + AllocGlobal> Folders<'r, R> {
         })
     }
 
-    /// The run over these inputs.
-    pub fn run(&self, alloc: Global, inputs: &[RunInput]) -> RunLog {
-        run_inputs(alloc, inputs, &*self, &*self, google_files())
-    }
-
     /// The check of these inputs.
     pub fn check(&self, alloc: Global, inputs: &[RunInput]) -> CheckLog {
         check_inputs(alloc, inputs, &*self, &*self, google_files())
@@ -62,16 +58,18 @@ impl<'r, R: Files + AllocGlobal> Folders<'r, R> {
     pub fn read(&self, alloc: Global, input: &RunInput) -> Result<InputRead, AllocError> {
         read_input(alloc, input, &*self, &*self, google_files())
     }
+}
 
-    /// Why the file of this path could not be read, if it was asked for and couldn't.
-    pub fn reason(&self, path: &str) -> Option<io::Error> {
-        self.files.reason(path)
-    }
-
-    /// Whether the file of this path was asked for, and left because it has more bytes than a text
-    /// may have.
-    pub fn is_too_long(&self, path: &str) -> bool {
-        self.files.is_too_long(path)
+impl<'r, R: Files + AllocGlobal> Reasons for Folders<'r, R> {
+    /// In the system's words; of a file that was left since it is longer than a text may be, that.
+    fn reason(&self, alloc: Global, path: &str) -> Result<Option<Reason>, AllocError> {
+        if self.files.is_too_long(path) {
+            return Ok(Some(Reason::TooLong));
+        }
+        match self.files.reason(path) {
+            Some(error) => Ok(Some(Reason::Because(format!(in alloc; "{error}")?))),
+            None => Ok(None),
+        }
     }
 }
 

@@ -1,6 +1,6 @@
 //! The command.
 
-ghost use Rattle.std.specs.Prelude.{◌≤◌, IfOk};
+ghost use Rattle.std.specs.Prelude.{◌≡◌, ◌≤◌, IfOk, true};
 
 use crate::arguments::{Arguments, arguments_of};
 use crate::made::{Made, make};
@@ -80,7 +80,7 @@ pub fn command<R: Files + AllocGlobal, O: Write, E: Write>(
 
 /// Tells a failure, and answers the status.
 fn tell_failure<E: Write>(err: &mut E, failure: &Failure<'_>) -> u8
-    ensures status { result ≤ 1 }
+    ensures status { result ≡ 1 }
 {
     // Nothing is left to tell where even this line can't be written.
     let _ = match failure {
@@ -133,7 +133,22 @@ fn perform<'a, R: Files + AllocGlobal, O: Write, E: Write>(
     ensures status { IfOk result (λ status. status ≤ 1) }
 {
     let made = make(rt, alloc, arguments)?;
-    let is_set_written = write_set(rt, arguments, &made, out, err);
+    write_made(rt, arguments, &made, out, err)
+}
+
+/// Writes what was made, and answers the status: 1 where an error is told, and where not even
+/// warnings could be.
+fn write_made<'a, R: Files + AllocGlobal, O: Write, E: Write>(
+    rt: &R,
+    arguments: &'a Arguments,
+    made: &Made,
+    out: &mut O,
+    err: &mut E,
+) -> Result<u8, Failure<'a>>
+    ensures error { made.now.has_error ≡ true → IfOk result (λ status. status ≡ 1) }
+    ensures status { IfOk result (λ status. status ≤ 1) }
+{
+    let is_set_written = write_set(rt, arguments, made, out, err);
     if let Err(Failure::Memory) = is_set_written {
         return Err(Failure::Memory);
     }

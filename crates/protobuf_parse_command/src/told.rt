@@ -1,5 +1,9 @@
 //! What is told on standard error.
 
+ghost use Rattle.std.specs.Prelude.{◌≡◌};
+ghost use Rattle.std.specs.List.{list_any};
+ghost use Rattle.protobuf_parse_command.specs.Made.{is_error};
+
 use protobuf_parse_diagnostics::{Diagnostic, Severity};
 use std::alloc::{AllocError, Global};
 
@@ -7,13 +11,19 @@ use std::alloc::{AllocError, Global};
 const MOST_TOLD: usize = 1000;
 
 /// Whether one of them is an error.
-pub fn has_error(told: &[Diagnostic]) -> bool {
-    told.iter().any(|each| each.severity == Severity::Error)
+pub fn has_error(told: &[Diagnostic]) -> bool
+    ensures { result ≡ list_any is_error told.now }
+{
+    for each in told {
+        if each.severity == Severity::Error {
+            return true;
+        }
+    }
+    false
 }
 
-/// A line for each of the first 1,000, and then one that says how many more there are, or that
-/// there may be more.
-pub fn lines_of(alloc: Global, told: &[Diagnostic], is_cut: bool) -> Result<String, AllocError> {
+/// A line for each of the first 1,000, and then one that says how many more there are.
+pub fn lines_of(alloc: Global, told: &[Diagnostic]) -> Result<String, AllocError> {
     let mut text = String::new(alloc);
     for each in told.iter().take(MOST_TOLD) {
         write!(text, "{each}\n")?;
@@ -21,9 +31,6 @@ pub fn lines_of(alloc: Global, told: &[Diagnostic], is_cut: bool) -> Result<Stri
     let more = told.len().saturating_sub(MOST_TOLD);
     if more > 0 {
         write!(text, "and {more} more\n")?;
-    }
-    if is_cut {
-        text.push_str("there may be more, in files that were not reached\n")?;
     }
     Ok(text)
 }

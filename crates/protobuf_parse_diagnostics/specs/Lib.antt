@@ -1,0 +1,5 @@
+pub mod Codes
+pub mod Told
+pub mod Telling
+pub mod Broken
+pub mod Arranged

@@ -1,5 +1,8 @@
 //! What is told of a file, as compilers tell it.
 
+ghost use Rattle.std.specs.Prelude.{OnOk};
+ghost use Rattle.protobuf_parse_diagnostics.specs.Arranged.{IsArranged};
+
 use protobuf_parse_syntax::Place;
 use std::alloc::AllocError;
 use std::fmt;
@@ -86,7 +89,10 @@ fn write_character<W: fmt::Write>(f: &mut fmt::Formatter<W>, character: char) ->
 /// Puts diagnostics in the order in which people read them, and keeps one of those that are equal:
 /// by their files, and in a file by their places, those without a place first. Those of one place
 /// stay in the order in which they came. The one error is that memory is short.
-pub fn arrange(diagnostics: &mut Vec<Diagnostic>) -> Result<(), AllocError> {
+pub fn arrange(diagnostics: &mut Vec<Diagnostic>) -> Result<(), AllocError>
+    ensures { OnOk result (IsArranged ⟦<Diagnostic as PartialEq>⟧.eq
+        diagnostics.old.items diagnostics.new.items) }
+{
     diagnostics.sort_by(|a, b| order_of(a).cmp(&order_of(b)))?;
     diagnostics.dedup();
     Ok(())

@@ -1,10 +1,14 @@
 //! Faults of runs as diagnostics.
 
+ghost use Rattle.std.specs.Prelude.{◌≡◌, IfOk, Some, string_bytes};
+ghost use Rattle.protobuf_parse_diagnostics.specs.Codes.{syntax_code_of};
+ghost use Rattle.protobuf_parse_diagnostics.specs.Told.{IsOfCode, text_place};
+
 use crate::diagnostic::Diagnostic;
 use crate::imports::Importers;
 use crate::loading::{loading_diagnostic, told_at};
-use crate::meaning::{meaning_diagnostic, other_repeats};
-use crate::sources::{Sources, Trees};
+use crate::meaning::meaning_diagnostic;
+use crate::sources::{Sources, Trees, parsed_texts};
 use crate::syntax::{syntax_code, syntax_sentence};
 use protobuf_parse_run::RunFault;
 use protobuf_parse_syntax::{ParserErrorWithLocation, Place};
@@ -21,37 +25,15 @@ pub fn fault_diagnostic(
         RunFault::Parse(origin, error) => parse_diagnostic(alloc, sources, origin, error),
         RunFault::Elaborate(origin, error) => meaning_diagnostic(alloc, sources, origin, error),
         _ => {
-            let trees = Trees::of(alloc, sources)?;
+            let parsed = parsed_texts(alloc, sources)?;
+            let trees = Trees::of_texts(alloc, sources, &parsed)?;
             let importers = Importers::of(alloc, &trees)?;
             loading_diagnostic(alloc, sources, &importers, fault)
         }
     }
 }
 
-/// [`fault_diagnostic`] of each of the faults, with the files read once for all. Behind them stands
-/// what is told of the other names that are declared twice, where one of the faults is E5 or E6: a
-/// run tells one of a file's names.
-pub fn fault_diagnostics(
-    alloc: Global,
-    sources: &Sources<'_>,
-    faults: &[RunFault],
-) -> Result<Vec<Diagnostic>, AllocError> {
-    let trees = Trees::of(alloc, sources)?;
-    let importers = Importers::of(alloc, &trees)?;
-    let mut told = Vec::new(alloc);
-    for fault in faults {
-        told.push(match fault {
-            RunFault::Parse(origin, error) => parse_diagnostic(alloc, sources, origin, error)?,
-            RunFault::Elaborate(origin, error) => {
-                meaning_diagnostic(alloc, sources, origin, error)?
-            }
-            _ => loading_diagnostic(alloc, sources, &importers, fault)?,
-        })?;
-    }
-    told.append(&mut other_repeats(alloc, &trees, faults)?)?;
-    Ok(told)
-}
-
+/// What is told of the text of the file that lies there.
 fn parse_diagnostic(
     alloc: Global,
     sources: &Sources<'_>,
@@ -74,7 +56,11 @@ pub fn text_diagnostic(
     file: &str,
     text: &str,
     error: &ParserErrorWithLocation,
-) -> Result<Diagnostic, AllocError> {
+) -> Result<Diagnostic, AllocError>
+    ensures code { IfOk result (IsOfCode (syntax_code_of error.now.error)) }
+    ensures file { IfOk result (λ told. string_bytes told.file ≡ file.now) }
+    ensures place { IfOk result (λ told. told.place ≡ Some (text_place error.now)) }
+{
     let place = Place {
         line: error.line,
         col: error.col,

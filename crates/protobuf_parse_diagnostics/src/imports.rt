@@ -3,7 +3,7 @@
 use crate::sources::{Trees, imports_in};
 use protobuf_parse_syntax::{ImportVis, Place};
 use std::alloc::{AllocError, Global};
-use std::collections::BTreeMap;
+use std::collections::{BTreeMap, BTreeSet};
 
 /// An `import` statement.
 #[derive(Clone, Copy)]
@@ -16,18 +16,18 @@ pub struct Importer<'a> {
 /// The trees of files, and by each proto path the first statement that imports it, in the order of
 /// the files.
 #[derive(Drop)]
-pub struct Importers<'t, 'a> {
-    pub trees: &'t Trees<'a>,
+pub struct Importers<'s, 't, 'a> {
+    pub trees: &'s Trees<'t, 'a>,
     firsts: BTreeMap<&'t str, Importer<'a>>,
 }
 
-impl<'t, 'a> Importers<'t, 'a> {
+impl<'s, 't, 'a> Importers<'s, 't, 'a> {
     /// Those of these files. The one error is that memory is short.
-    pub fn of(alloc: Global, trees: &'t Trees<'a>) -> Result<Self, AllocError> {
+    pub fn of(alloc: Global, trees: &'s Trees<'t, 'a>) -> Result<Self, AllocError> {
         let mut firsts = BTreeMap::new(alloc);
         for file in &trees.files {
             let origin = file.source.origin;
-            for import in imports_in(alloc, &file.tree)? {
+            for import in imports_in(alloc, file.tree)? {
                 let place = import.place;
                 firsts
                     .entry(import.path.as_path().to_str())?
@@ -46,14 +46,14 @@ impl<'t, 'a> Importers<'t, 'a> {
 /// Where the file of the first proto path imports the second one.
 pub fn import_place(
     alloc: Global,
-    trees: &Trees<'_>,
+    trees: &Trees<'_, '_>,
     from: &str,
     path: &str,
 ) -> Result<Option<Place>, AllocError> {
     let Some(file) = trees.of_path(from) else {
         return Ok(None);
     };
-    for import in imports_in(alloc, &file.tree)? {
+    for import in imports_in(alloc, file.tree)? {
         if import.path.as_path().to_str() == path {
             return Ok(Some(import.place));
         }
@@ -65,7 +65,7 @@ pub fn import_place(
 /// on, itself counted.
 pub fn long_import(
     alloc: Global,
-    trees: &Trees<'_>,
+    trees: &Trees<'_, '_>,
     path: &str,
     files: usize,
 ) -> Result<Option<Place>, AllocError> {
@@ -73,7 +73,7 @@ pub fn long_import(
         return Ok(None);
     };
     let long = begin_chains(alloc, trees, files)?;
-    for import in imports_in(alloc, &file.tree)? {
+    for import in imports_in(alloc, file.tree)? {
         if let Some(next) = trees.position(import.path.as_path().to_str()) {
             if is_marked(&long, next) {
                 return Ok(Some(import.place));
@@ -85,11 +85,15 @@ pub fn long_import(
 
 /// Of each file, whether a chain of that many files begins with it, two or more. The last one need
 /// not have been read.
-fn begin_chains(alloc: Global, trees: &Trees<'_>, files: usize) -> Result<Vec<bool>, AllocError> {
+fn begin_chains(
+    alloc: Global,
+    trees: &Trees<'_, '_>,
+    files: usize,
+) -> Result<Vec<bool>, AllocError> {
     let mut nexts: Vec<Vec<usize>> = Vec::new(alloc);
     let mut long: Vec<bool> = Vec::new(alloc);
     for file in &trees.files {
-        let imports = imports_in(alloc, &file.tree)?;
+        let imports = imports_in(alloc, file.tree)?;
         long.push(!imports.is_empty())?;
         let mut next = Vec::new(alloc);
         for import in imports {
@@ -122,46 +126,6 @@ fn is_marked(marked: &[bool], at: usize) -> bool {
     marked.get(at).copied().unwrap_or(false)
 }
 
-/// An import of a file, by its number among these.
-#[derive(Clone, Copy)]
-pub struct FirstImport {
-    pub number: usize,
-    pub place: Place,
-}
-
-/// Of each file, the first import of the file at this position with which it is reached.
-pub fn first_imports(
-    alloc: Global,
-    trees: &Trees<'_>,
-    from: usize,
-) -> Result<Vec<Option<FirstImport>>, AllocError> {
-    let mut firsts: Vec<Option<FirstImport>> = vec![in alloc; None; trees.files.len()]?;
-    let Some(file) = trees.files.get(from) else {
-        return Ok(firsts);
-    };
-    for (number, import) in imports_in(alloc, &file.tree)?.iter().enumerate() {
-        let place = import.place;
-        let Some(next) = trees.position(import.path.as_path().to_str()) else {
-            continue;
-        };
-        if firsts.get(next).copied().flatten().is_none() {
-            for position in reached(alloc, trees, next)? {
-                mark_first(&mut firsts, position, FirstImport { number, place });
-            }
-        }
-    }
-    Ok(firsts)
-}
-
-/// Marks the file at this position, if no import before did.
-fn mark_first(firsts: &mut [Option<FirstImport>], position: usize, import: FirstImport) {
-    if let Some(first) = firsts.get_mut(position) {
-        if first.is_none() {
-            *first = Some(import);
-        }
-    }
-}
-
 /// Which imports are followed.
 #[derive(Clone, Copy, PartialEq, Eq)]
 enum Followed {
@@ -170,29 +134,33 @@ enum Followed {
     Public,
 }
 
-/// The positions of the files that the file at this position reaches, its own first.
-pub fn reached(alloc: Global, trees: &Trees<'_>, from: usize) -> Result<Vec<usize>, AllocError> {
+/// The positions of the files that the file at this position reaches, its own too.
+pub fn reached(
+    alloc: Global,
+    trees: &Trees<'_, '_>,
+    from: usize,
+) -> Result<BTreeSet<usize>, AllocError> {
     positions_by(alloc, trees, from, Followed::All)
 }
 
-/// The positions of the files that the file at this position sees, its own first.
-pub fn seen(alloc: Global, trees: &Trees<'_>, from: usize) -> Result<Vec<usize>, AllocError> {
+/// The positions of the files that the file at this position sees, its own too.
+pub fn seen(
+    alloc: Global,
+    trees: &Trees<'_, '_>,
+    from: usize,
+) -> Result<BTreeSet<usize>, AllocError> {
     positions_by(alloc, trees, from, Followed::Public)
 }
 
 fn positions_by(
     alloc: Global,
-    trees: &Trees<'_>,
+    trees: &Trees<'_, '_>,
     from: usize,
     which: Followed,
-) -> Result<Vec<usize>, AllocError> {
-    positions_in(alloc, &walk_from(alloc, trees, from, which)?)
-}
-
-fn positions_in(alloc: Global, walk: &[Step]) -> Result<Vec<usize>, AllocError> {
-    let mut positions = Vec::with_capacity(alloc, walk.len())?;
-    for step in walk {
-        positions.push(step.file)?;
+) -> Result<BTreeSet<usize>, AllocError> {
+    let mut positions = BTreeSet::new(alloc);
+    for step in &walk_from(alloc, trees, from, which)? {
+        positions.insert(step.file)?;
     }
     Ok(positions)
 }
@@ -207,11 +175,11 @@ struct Step {
 /// Meets each file once, those nearer to the first one first.
 fn walk_from(
     alloc: Global,
-    trees: &Trees<'_>,
+    trees: &Trees<'_, '_>,
     from: usize,
     which: Followed,
 ) -> Result<Vec<Step>, AllocError> {
-    let mut met = vec![in alloc; false; trees.files.len()]?;
+    let mut met: BTreeSet<usize> = BTreeSet::new(alloc);
     let mut steps: Vec<Step> = Vec::new(alloc);
     meet(&mut met, &mut steps, from, 0)?;
     for by in 0..trees.files.len() {
@@ -221,7 +189,7 @@ fn walk_from(
         let Some(file) = trees.files.get(step.file) else {
             break;
         };
-        for import in imports_in(alloc, &file.tree)? {
+        for import in imports_in(alloc, file.tree)? {
             if by > 0 && which == Followed::Public && import.vis != ImportVis::Public {
                 continue;
             }
@@ -234,16 +202,13 @@ fn walk_from(
 }
 
 fn meet(
-    met: &mut Vec<bool>,
+    met: &mut BTreeSet<usize>,
     steps: &mut Vec<Step>,
     file: usize,
     by: usize,
 ) -> Result<(), AllocError> {
-    if let Some(is_met) = met.get_mut(file) {
-        if !*is_met {
-            *is_met = true;
-            steps.push(Step { file, by })?;
-        }
+    if met.insert(file)? {
+        steps.push(Step { file, by })?;
     }
     Ok(())
 }
@@ -252,7 +217,7 @@ fn meet(
 /// of this path to itself. Empty where there is none.
 pub fn cycle_at<'a>(
     alloc: Global,
-    trees: &Trees<'a>,
+    trees: &Trees<'_, 'a>,
     path: &str,
 ) -> Result<Vec<&'a str>, AllocError> {
     let Some(from) = trees.position(path) else {
@@ -273,7 +238,7 @@ pub fn cycle_at<'a>(
 /// The paths from the first step to that one, and the first one again.
 fn chain_to<'a>(
     alloc: Global,
-    trees: &Trees<'a>,
+    trees: &Trees<'_, 'a>,
     steps: &[Step],
     last: usize,
 ) -> Result<Vec<&'a str>, AllocError> {
@@ -293,7 +258,7 @@ fn chain_to<'a>(
 
 fn push_path<'a>(
     chain: &mut Vec<&'a str>,
-    trees: &Trees<'a>,
+    trees: &Trees<'_, 'a>,
     steps: &[Step],
     at: usize,
 ) -> Result<(), AllocError> {

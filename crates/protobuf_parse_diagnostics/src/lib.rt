@@ -2,7 +2,7 @@
 //! and whatever a linter tells.
 #![tactic(auto)]
 
-mod affected;
+mod checks;
 mod declared;
 mod diagnostic;
 mod faults;
@@ -13,6 +13,8 @@ mod loading;
 mod meaning;
 mod outline;
 mod paths;
+mod ranges;
+mod reasons;
 mod rules;
 mod scan;
 mod sources;
@@ -20,16 +22,17 @@ mod statements;
 mod syntax;
 mod wire;
 
-pub use affected::{Spread, fault_path};
+pub use checks::check_diagnostics;
 pub use declared::DeclarationPlaces;
 pub use diagnostic::{Diagnostic, Severity, arrange};
-pub use faults::{fault_diagnostic, fault_diagnostics, text_diagnostic};
+pub use faults::{fault_diagnostic, text_diagnostic};
 pub use loading::run_code;
-pub use meaning::{meaning_code, report_diagnostics};
+pub use meaning::meaning_code;
 pub use outline::DeclaredKind;
 pub use paths::{path_code, path_sentence};
 pub use protobuf_parse_syntax::Place;
-pub use rules::{RuleLevel, rule_diagnostics};
-pub use sources::{Source, Sources};
+pub use reasons::{NoReasons, Reason, Reasons, add_reason};
+pub use rules::{RuleLevel, rule_diagnostics, rule_diagnostics_by_trees};
+pub use sources::{NamedTree, Source, Sources};
 pub use syntax::syntax_code;
 pub use wire::{wire_code, wire_sentence};

@@ -1,5 +1,11 @@
 //! Faults of loading: L1 to L11, but for the text and the meaning of a file.
 
+ghost use Rattle.std.specs.Prelude.{◌≡◌, IfOk, codes, string_bytes, true};
+ghost use Rattle.protobuf_parse_diagnostics.specs.Codes.{run_code_of};
+ghost use Rattle.protobuf_parse_diagnostics.specs.Told.{IsAt, IsOfCode};
+ghost use Rattle.protobuf_parse_diagnostics.specs.Telling.{importer_spot};
+ghost use Rattle.protobuf_parse_diagnostics.specs.Told.{is_told_where_asked};
+
 use crate::diagnostic::{Diagnostic, Severity};
 use crate::imports::{Importer, Importers, cycle_at, import_place, long_import};
 use crate::paths::{path_code, path_sentence};
@@ -10,7 +16,9 @@ use protobuf_parse_syntax::Place;
 use std::alloc::{AllocError, Global};
 
 /// The code of a fault of a run: L1 to L11. Want of memory has none.
-pub fn run_code(fault: &RunFault) -> &'static str {
+pub fn run_code(fault: &RunFault) -> &'static str
+    ensures { result.now ≡ run_code_of fault.now }
+{
     match fault {
         RunFault::Memory => "",
         RunFault::ContentIsNotUtf8(_) => "L1",
@@ -31,9 +39,46 @@ pub fn run_code(fault: &RunFault) -> &'static str {
 pub fn loading_diagnostic(
     alloc: Global,
     sources: &Sources<'_>,
-    importers: &Importers<'_, '_>,
+    importers: &Importers<'_, '_, '_>,
     fault: &RunFault,
 ) -> Result<Diagnostic, AllocError> {
+    match fault {
+        RunFault::FileNotFoundInImportPath(path, _) | RunFault::Resolver(path, _) => {
+            asked_diagnostic(alloc, sources, importers.first(path), fault)
+        }
+        RunFault::ImportCycle(path) => cycle(alloc, sources, importers.trees, path),
+        RunFault::ImportChainTooLong(path) => too_long(alloc, sources, importers.trees, path),
+        _ => file_diagnostic(alloc, sources, fault),
+    }
+}
+
+/// What is told of a file that is asked for: at the statement that imports it, if one does, that it
+/// is not found or that a resolver gave no file.
+pub fn asked_diagnostic(
+    alloc: Global,
+    sources: &Sources<'_>,
+    importer: Option<Importer<'_>>,
+    fault: &RunFault,
+) -> Result<Diagnostic, AllocError>
+    ensures code { IfOk result (IsOfCode (run_code_of fault.now)) }
+    ensures place { is_told_where_asked fault.now ≡ true
+        → IfOk result (IsAt (importer_spot importer.entry)) }
+{
+    match fault {
+        RunFault::FileNotFoundInImportPath(path, text) => not_found(alloc, importer, path, text),
+        RunFault::Resolver(path, why) => unresolved(alloc, importer, path, why),
+        _ => file_diagnostic(alloc, sources, fault),
+    }
+}
+
+/// What is told of a file as a whole, or of what stands in it.
+pub fn file_diagnostic(
+    alloc: Global,
+    sources: &Sources<'_>,
+    fault: &RunFault,
+) -> Result<Diagnostic, AllocError>
+    ensures { IfOk result (IsOfCode (run_code_of fault.now)) }
+{
     let code = run_code(fault);
     match fault {
         RunFault::ContentIsNotUtf8(path) => {
@@ -41,7 +86,6 @@ pub fn loading_diagnostic(
             let place = sources.end_of_text(path);
             told_at(alloc, code, sources.origin_of(path), place, sentence)
         }
-        RunFault::FileNotFoundInImportPath(path, text) => not_found(alloc, importers, path, text),
         RunFault::FileMustResideInImportPath(input, includes) => told_of(
             alloc,
             code,
@@ -51,10 +95,7 @@ pub fn loading_diagnostic(
         RunFault::CouldNotReadFile(path, why) => {
             told_of(alloc, code, path, Sentence::fixed(alloc, unread(*why))?)
         }
-        RunFault::Resolver(path, why) => unresolved(alloc, importers, path, why),
         RunFault::Shadowed(input, path) => told_of(alloc, code, input, shadowed(alloc, path)?),
-        RunFault::ImportCycle(path) => cycle(alloc, sources, importers.trees, path),
-        RunFault::ImportChainTooLong(path) => too_long(alloc, sources, importers.trees, path),
         RunFault::InputPath(input, why) => {
             let sentence = path_sentence(*why);
             let path = path_code(*why);
@@ -63,7 +104,7 @@ pub fn loading_diagnostic(
             )?;
             told_of(alloc, code, input, Sentence::new(message))
         }
-        RunFault::Memory | RunFault::Parse(_, _) | RunFault::Elaborate(_, _) => Err(AllocError),
+        _ => Err(AllocError),
     }
 }
 
@@ -73,7 +114,9 @@ fn told_of(
     code: &str,
     file: &str,
     sentence: Sentence,
-) -> Result<Diagnostic, AllocError> {
+) -> Result<Diagnostic, AllocError>
+    ensures { IfOk result (IsOfCode code.now) }
+{
     told_at(alloc, code, file, None, sentence)
 }
 
@@ -84,7 +127,11 @@ pub fn told_at(
     file: &str,
     place: Option<Place>,
     sentence: Sentence,
-) -> Result<Diagnostic, AllocError> {
+) -> Result<Diagnostic, AllocError>
+    ensures code { IfOk result (IsOfCode code.now) }
+    ensures file { IfOk result (λ told. string_bytes told.file ≡ file.now) }
+    ensures place { IfOk result (λ told. told.place ≡ place) }
+{
     let Sentence { message, help } = sentence;
     Ok(Diagnostic {
         file: String::from_str(alloc, file)?,
@@ -99,16 +146,19 @@ pub fn told_at(
 /// L2, at the statement that imports the file, if one does.
 fn not_found(
     alloc: Global,
-    importers: &Importers<'_, '_>,
+    importer: Option<Importer<'_>>,
     path: &str,
     includes: &str,
-) -> Result<Diagnostic, AllocError> {
+) -> Result<Diagnostic, AllocError>
+    ensures code { IfOk result (IsOfCode (codes "L2")) }
+    ensures place { IfOk result (IsAt (importer_spot importer.entry)) }
+{
     let help = if includes.is_empty() {
         None
     } else {
         Some(format!(in alloc; "it was looked for in {includes}")?)
     };
-    match importers.first(path) {
+    match importer {
         Some(Importer { origin, place }) => {
             let message = format!(in alloc; "the imported file \"{path}\" is not found")?;
             told_at(alloc, "L2", origin, Some(place), Sentence { message, help })
@@ -131,11 +181,14 @@ fn unread(why: ReadInputFault) -> &'static str {
 /// L5, at the statement that imports the file, if one does.
 fn unresolved(
     alloc: Global,
-    importers: &Importers<'_, '_>,
+    importer: Option<Importer<'_>>,
     path: &str,
     why: &ResolveFault,
-) -> Result<Diagnostic, AllocError> {
-    match importers.first(path) {
+) -> Result<Diagnostic, AllocError>
+    ensures code { IfOk result (IsOfCode (codes "L5")) }
+    ensures place { IfOk result (IsAt (importer_spot importer.entry)) }
+{
+    match importer {
         Some(Importer { origin, place }) => {
             let message = format!(in alloc; "the import of \"{path}\" failed: {why}")?;
             told_at(alloc, "L5", origin, Some(place), Sentence::new(message))
@@ -151,7 +204,7 @@ fn unresolved(
 fn too_long(
     alloc: Global,
     sources: &Sources<'_>,
-    trees: &Trees<'_>,
+    trees: &Trees<'_, '_>,
     path: &str,
 ) -> Result<Diagnostic, AllocError> {
     let place = long_import(alloc, trees, path, 100)?;
@@ -177,7 +230,7 @@ fn shadowed(alloc: Global, path: &str) -> Result<Sentence, AllocError> {
 fn cycle(
     alloc: Global,
     sources: &Sources<'_>,
-    trees: &Trees<'_>,
+    trees: &Trees<'_, '_>,
     path: &str,
 ) -> Result<Diagnostic, AllocError> {
     let chain = cycle_at(alloc, trees, path)?;

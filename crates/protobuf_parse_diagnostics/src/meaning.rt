@@ -1,8 +1,13 @@
 //! Faults of meaning as sentences: E1 to E28.
 
+ghost use Rattle.std.specs.Prelude.{◌≡◌, IfOk, OnOk, Some, flat_map, map};
+ghost use Rattle.protobuf_parse_diagnostics.specs.Codes.{meaning_code_of};
+ghost use Rattle.protobuf_parse_diagnostics.specs.Told.{IsOfCode, IsTold, meaning_line};
+ghost use Rattle.protobuf_parse_diagnostics.specs.Telling.{Tells};
+ghost use Rattle.protobuf_parse_diagnostics.specs.Told.{report_lines};
+
 mod hints;
 mod known;
-mod repeats;
 
 use crate::diagnostic::Diagnostic;
 use crate::firsts::Firsts;
@@ -10,11 +15,10 @@ use crate::kinds::values_of_option;
 use crate::loading::told_at;
 use crate::meaning::hints::{Hints, declared_twice};
 use crate::meaning::known::{Known, Sight, known_files};
-pub use crate::meaning::repeats::other_repeats;
-use crate::sources::{Sources, Trees};
+use crate::sources::{Sources, Trees, parsed_texts};
 use crate::syntax::Sentence;
+use protobuf_parse_check::FileReport;
 use protobuf_parse_model::{ElabError, ElabErrorKind};
-use protobuf_parse_run::FileReport;
 use protobuf_parse_syntax::Place;
 use std::alloc::{AllocError, Global};
 
@@ -31,7 +35,9 @@ const OPTIONS_OF_PROTOC: &[&str] = &[
 ];
 
 /// The code of a fault of meaning: E1 to E28.
-pub fn meaning_code(fault: ElabErrorKind) -> &'static str {
+pub fn meaning_code(fault: ElabErrorKind) -> &'static str
+    ensures { result.now ≡ meaning_code_of fault }
+{
     match fault {
         ElabErrorKind::DuplicateName => "E1",
         ElabErrorKind::NotFoundByAbsPath => "E2",
@@ -70,7 +76,8 @@ pub fn meaning_diagnostic(
     origin: &str,
     error: &ElabError,
 ) -> Result<Diagnostic, AllocError> {
-    let trees = Trees::of(alloc, sources)?;
+    let parsed = parsed_texts(alloc, sources)?;
+    let trees = Trees::of_texts(alloc, sources, &parsed)?;
     let files = known_files(alloc, &trees)?;
     let known = Known::of(alloc, &files)?;
     let at = trees.at_origin(origin);
@@ -80,52 +87,98 @@ pub fn meaning_diagnostic(
     }
 }
 
-/// What is told of the faults in these reports of a check, in their order. The one error is that
-/// memory is short.
-pub fn report_diagnostics(
+/// Tells the faults in these reports of a check, in their order. The one error is that memory is
+/// short.
+#[tactic(auto, using(crate::proofs::Adding::report_next))]
+pub fn tell_reports(
     alloc: Global,
+    told: &mut Vec<Diagnostic>,
     sources: &Sources<'_>,
     reports: &[FileReport],
-) -> Result<Vec<Diagnostic>, AllocError> {
-    let trees = Trees::of(alloc, sources)?;
+) -> Result<(), AllocError>
+    ensures { OnOk result (Tells (flat_map (report_lines sources.now) reports.now)
+        told.old.items told.new.items) }
+{
+    let trees = Trees::of_reports(alloc, sources, faulty_trees(reports))?;
     let files = known_files(alloc, &trees)?;
     let known = Known::of(alloc, &files)?;
-    let mut told = Vec::new(alloc);
+    let mut hints = Hints::new(alloc);
     for report in reports {
-        if !report.faults.is_empty() {
-            let mut lines = told_of(alloc, sources, &trees, &known, report)?;
-            told.append(&mut lines)?;
-        }
+        let subject = subject_of(alloc, &trees, &known, report)?;
+        let origin = (&*sources).origin_of(&report.path);
+        tell_errors(alloc, told, origin, &subject, &mut hints, &report.repeats)?;
+        tell_errors(alloc, told, origin, &subject, &mut hints, &report.faults)?;
     }
-    Ok(told)
+    Ok(())
 }
 
-/// What is told of the faults of a file.
-fn told_of<'a>(
-    alloc: Global,
-    sources: &Sources<'_>,
-    trees: &Trees<'a>,
-    known: &Known<'_, '_, 'a>,
-    report: &FileReport,
-) -> Result<Vec<Diagnostic>, AllocError> {
-    let at = trees.position(&report.path);
-    let subject = subject_at(alloc, trees, known, at)?;
-    let origin = sources.origin_of(&report.path);
-    let mut hints = Hints::new(alloc);
-    let mut told = Vec::new(alloc);
-    for error in &report.faults {
-        told.push(match &subject {
-            Some(subject) => subject.diagnostic(alloc, origin, error, &mut hints)?,
-            None => error_diagnostic(alloc, origin, error)?,
-        })?;
+/// These reports if something is told in one of them, and else none: what files declare that are
+/// told nothing of is not looked at.
+fn faulty_trees(reports: &[FileReport]) -> &[FileReport] {
+    if reports.iter().any(has_faults) {
+        reports
+    } else {
+        &[]
     }
-    Ok(told)
+}
+
+/// Tells these faults of the file that lies there.
+fn tell_errors<'e>(
+    alloc: Global,
+    told: &mut Vec<Diagnostic>,
+    origin: &str,
+    subject: &Option<Subject<'_, '_, '_, '_>>,
+    hints: &mut Hints<'e>,
+    errors: &'e [ElabError],
+) -> Result<(), AllocError>
+    ensures { OnOk result (Tells (map (meaning_line origin.now) errors.now)
+        told.old.items told.new.items) }
+{
+    for error in errors {
+        told.push(subject_diagnostic(alloc, origin, subject, error, hints)?)?;
+    }
+    Ok(())
+}
+
+/// What is told of the fault, by what its file knows, if that is at hand.
+fn subject_diagnostic<'e>(
+    alloc: Global,
+    origin: &str,
+    subject: &Option<Subject<'_, '_, '_, '_>>,
+    error: &'e ElabError,
+    hints: &mut Hints<'e>,
+) -> Result<Diagnostic, AllocError>
+    ensures { IfOk result (IsTold (meaning_line origin.now error.now)) }
+{
+    match subject {
+        Some(subject) => subject.diagnostic(alloc, origin, error, hints),
+        None => error_diagnostic(alloc, origin, error),
+    }
+}
+
+/// Whether something is told of what stands in the file.
+fn has_faults(report: &FileReport) -> bool {
+    !report.repeats.is_empty() || !report.faults.is_empty()
+}
+
+/// The file of the report, if something is told in it.
+fn subject_of<'s, 'k, 't, 'a>(
+    alloc: Global,
+    trees: &Trees<'_, 'a>,
+    known: &'s Known<'k, 't, 'a>,
+    report: &FileReport,
+) -> Result<Option<Subject<'s, 'k, 't, 'a>>, AllocError> {
+    if has_faults(report) {
+        subject_at(alloc, trees, known, trees.position(&report.path))
+    } else {
+        Ok(None)
+    }
 }
 
 /// The file at that position, if there is one.
 fn subject_at<'s, 'k, 't, 'a>(
     alloc: Global,
-    trees: &'s Trees<'a>,
+    trees: &Trees<'_, 'a>,
     known: &'s Known<'k, 't, 'a>,
     at: Option<usize>,
 ) -> Result<Option<Subject<'s, 'k, 't, 'a>>, AllocError> {
@@ -140,7 +193,9 @@ fn error_diagnostic(
     alloc: Global,
     origin: &str,
     error: &ElabError,
-) -> Result<Diagnostic, AllocError> {
+) -> Result<Diagnostic, AllocError>
+    ensures { IfOk result (IsTold (meaning_line origin.now error.now)) }
+{
     let sentence = error_sentence(alloc, error)?;
     told_at(
         alloc,
@@ -162,7 +217,7 @@ impl<'s, 'k, 't, 'a> Subject<'s, 'k, 't, 'a> {
     /// The file at this position, if there is one.
     fn of(
         alloc: Global,
-        trees: &'s Trees<'a>,
+        trees: &Trees<'_, 'a>,
         known: &'s Known<'k, 't, 'a>,
         at: usize,
     ) -> Result<Option<Self>, AllocError> {
@@ -183,7 +238,9 @@ impl<'s, 'k, 't, 'a> Subject<'s, 'k, 't, 'a> {
         origin: &str,
         error: &'e ElabError,
         hints: &mut Hints<'e>,
-    ) -> Result<Diagnostic, AllocError> {
+    ) -> Result<Diagnostic, AllocError>
+        ensures { IfOk result (IsTold (meaning_line origin.now error.now)) }
+    {
         let found = match error.kind {
             ElabErrorKind::DuplicateName => first_one(alloc, &self.firsts, error)?,
             ElabErrorKind::TypeDeclaredTwice | ElabErrorKind::ExtensionDeclaredTwice => {

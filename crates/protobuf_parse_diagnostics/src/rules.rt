@@ -1,14 +1,19 @@
 //! Violations of rules, at the statements that declare what breaks them.
 
+ghost use Rattle.std.specs.Prelude.{◌≡◌, IfOk};
+ghost use Rattle.protobuf_parse_diagnostics.specs.Broken.{AreViolationsTold, IsViolationTold};
+ghost use Rattle.protobuf_parse_diagnostics.specs.Broken.{is_told_at, severity_of, told_at_level};
+
 use crate::declared::DeclarationPlaces;
 use crate::diagnostic::{Diagnostic, Severity};
-use crate::outline::{DeclaredKind, Outline, Ranges};
-use crate::sources::{Sources, tree_of};
-use crate::statements::{import_statement, package_statement, repeated_import};
+use crate::outline::{DeclaredKind, Outline};
+use crate::ranges::RangePlaces;
+use crate::sources::{NamedTree, Sources, tree_of};
+use crate::statements::StatementPlaces;
 use protobuf_parse_rules::{NamedKind, Rule, Violation};
-use protobuf_parse_syntax::{FieldNumberRange, FileTree, Place};
+use protobuf_parse_syntax::{FileTree, Place};
 use std::alloc::{AllocError, Global};
-use std::collections::BTreeMap;
+use std::collections::{BTreeMap, BTreeSet};
 
 /// How violations are told.
 #[derive(Clone, Copy, Debug, PartialEq, Eq)]
@@ -21,137 +26,179 @@ pub enum RuleLevel {
     Off,
 }
 
-/// What is told of violations in files that the run read. The one error is that memory is short.
+/// What is told of violations in files that the run read: one of each, in their order. The texts
+/// of the files that have some are parsed for the places. The one error is that memory is short.
 pub fn rule_diagnostics(
     alloc: Global,
     sources: &Sources<'_>,
     violations: &[Violation],
     level: RuleLevel,
-) -> Result<Vec<Diagnostic>, AllocError> {
-    let mut told = Vec::new(alloc);
-    if level == RuleLevel::Off {
-        return Ok(told);
+) -> Result<Vec<Diagnostic>, AllocError>
+    ensures { IfOk result (λ told.
+        AreViolationsTold level (told_at_level level violations.now) told.items) }
+{
+    let trees = if is_told(level) {
+        trees_of(alloc, sources, violations)?
+    } else {
+        Vec::new(alloc)
+    };
+    rule_diagnostics_by_trees(alloc, sources, &trees, violations, level)
+}
+
+/// [`rule_diagnostics`] of violations in files whose trees are at hand: nothing is parsed. The one
+/// error is that memory is short.
+pub fn rule_diagnostics_by_trees(
+    alloc: Global,
+    sources: &Sources<'_>,
+    trees: &[NamedTree],
+    violations: &[Violation],
+    level: RuleLevel,
+) -> Result<Vec<Diagnostic>, AllocError>
+    ensures { IfOk result (λ told.
+        AreViolationsTold level (told_at_level level violations.now) told.items) }
+{
+    if is_told(level) {
+        tell_violations(alloc, sources, trees, violations, level)
+    } else {
+        Ok(Vec::new(alloc))
     }
-    let by_file = by_file(alloc, violations)?;
-    for (file, group) in by_file.iter() {
-        tell_file(alloc, sources, file, group, level, &mut told)?;
+}
+
+fn is_told(level: RuleLevel) -> bool
+    ensures { result ≡ is_told_at level }
+{
+    match level {
+        RuleLevel::Error | RuleLevel::Warn => true,
+        RuleLevel::Off => false,
+    }
+}
+
+/// Tells one of each of the violations.
+#[tactic(auto, using(crate::proofs::Breaking::violation_next))]
+fn tell_violations(
+    alloc: Global,
+    sources: &Sources<'_>,
+    trees: &[NamedTree],
+    violations: &[Violation],
+    level: RuleLevel,
+) -> Result<Vec<Diagnostic>, AllocError>
+    ensures { IfOk result (λ told. AreViolationsTold level violations.now told.items) }
+{
+    let files = broken_files(alloc, trees, violations)?;
+    let places = PlacesByFile::of(alloc, &files)?;
+    let mut told = Vec::with_capacity(alloc, violations.len())?;
+    for violation in violations {
+        let origin = sources.origin_of(&violation.file);
+        let place = places.of_violation(violation);
+        told.push(diagnostic_of(alloc, origin, place, violation, level)?)?;
     }
     Ok(told)
 }
 
-/// The violations of each file.
-fn by_file<'v>(
-    alloc: Global,
-    violations: &'v [Violation],
-) -> Result<BTreeMap<&'v str, Vec<&'v Violation>>, AllocError> {
-    let mut groups: BTreeMap<&'v str, Vec<&'v Violation>> = BTreeMap::new(alloc);
-    for violation in violations {
-        groups
-            .entry(violation.file.as_str())?
-            .or_insert(Vec::new(alloc))
-            .push(violation)?;
-    }
-    Ok(groups)
-}
-
-fn tell_file(
+/// The trees of the files that have violations, of those that have a tree.
+fn trees_of(
     alloc: Global,
     sources: &Sources<'_>,
-    path: &str,
-    violations: &[&Violation],
-    level: RuleLevel,
-    told: &mut Vec<Diagnostic>,
-) -> Result<(), AllocError> {
-    let origin = sources.origin_of(path);
-    let tree = match sources.of_path(path) {
-        Some(source) => tree_of(alloc, source.text)?,
-        None => None,
-    };
-    match tree {
-        Some(tree) => tell_tree(alloc, &tree, origin, violations, level, told),
-        None => {
-            for violation in violations {
-                told.push(diagnostic_of(alloc, origin, None, violation, level)?)?;
+    violations: &[Violation],
+) -> Result<Vec<NamedTree>, AllocError> {
+    let mut trees = Vec::new(alloc);
+    for path in &paths_of(alloc, violations)? {
+        if let Some(source) = sources.of_path(path) {
+            if let Some(tree) = tree_of(alloc, source.text)? {
+                let path = String::from_str(alloc, path)?;
+                trees.push(NamedTree { path, tree })?;
             }
-            Ok(())
         }
     }
+    Ok(trees)
 }
 
-fn tell_tree(
-    alloc: Global,
-    tree: &FileTree,
-    origin: &str,
-    violations: &[&Violation],
-    level: RuleLevel,
-    told: &mut Vec<Diagnostic>,
-) -> Result<(), AllocError> {
-    let outline = Outline::of(alloc, tree)?;
-    let places = Places::of(alloc, &outline)?;
+/// The paths of the files that have violations.
+fn paths_of(alloc: Global, violations: &[Violation]) -> Result<BTreeSet<&str>, AllocError> {
+    let mut paths = BTreeSet::new(alloc);
     for violation in violations {
-        let place = match statement_place(tree, violation) {
-            Some(place) => Some(place),
-            None => places.of_violation(violation),
-        };
-        told.push(diagnostic_of(alloc, origin, place, violation, level)?)?;
+        paths.insert(violation.file.as_str())?;
     }
-    Ok(())
+    Ok(paths)
 }
 
-/// The place of the statement that breaks the rule, where that declares nothing.
-fn statement_place(tree: &FileTree, violation: &Violation) -> Option<Place> {
-    match violation.rule {
-        Rule::LiteImport | Rule::ImportUnused => {
-            import_statement(tree, violation.name.as_ref()?)
+/// A file that has violations, and what its tree declares.
+#[derive(Drop)]
+struct BrokenFile<'t> {
+    path: &'t str,
+    tree: &'t FileTree,
+    outline: Outline<'t>,
+}
+
+/// Those of the files that have violations.
+fn broken_files<'t>(
+    alloc: Global,
+    trees: &'t [NamedTree],
+    violations: &[Violation],
+) -> Result<Vec<BrokenFile<'t>>, AllocError> {
+    let paths = paths_of(alloc, violations)?;
+    let mut files = Vec::new(alloc);
+    for each in trees {
+        if paths.contains(each.path.as_str()) {
+            files.push(BrokenFile {
+                path: &each.path,
+                tree: &each.tree,
+                outline: Outline::of(alloc, &each.tree)?,
+            })?;
         }
-        Rule::ImportedTwice => repeated_import(tree, violation.name.as_ref()?),
-        Rule::NameInUse {
-            kind: NamedKind::Package,
-            ..
-        } => package_statement(tree),
-        _ => None,
+    }
+    Ok(files)
+}
+
+/// What is declared in files, by their paths.
+#[derive(Drop)]
+struct PlacesByFile<'o> {
+    files: BTreeMap<&'o str, Places<'o>>,
+}
+
+impl<'o> PlacesByFile<'o> {
+    fn of(alloc: Global, files: &'o [BrokenFile<'_>]) -> Result<Self, AllocError> {
+        let mut places = BTreeMap::new(alloc);
+        for file in files {
+            places.insert(file.path, Places::of(alloc, file)?)?;
+        }
+        Ok(PlacesByFile { files: places })
+    }
+
+    /// The place of the statement that breaks the rule, where the tree of its file is at hand.
+    fn of_violation(&self, violation: &Violation) -> Option<Place> {
+        self.files
+            .get(violation.file.as_str())?
+            .of_violation(violation)
     }
 }
 
-/// A range of numbers, and the place of its statement.
-#[derive(Clone, Copy)]
-struct RangeSite {
-    range: FieldNumberRange,
-    place: Place,
-}
-
-/// The declarations and the ranges of a file by the full names of what has them.
+/// What stands in a file, by the full names of what it declares and by the paths that it imports.
 #[derive(Drop)]
 struct Places<'o> {
+    statements: StatementPlaces<'o>,
     declared: DeclarationPlaces,
-    ranges: BTreeMap<&'o str, Vec<RangeSite>>,
+    ranges: RangePlaces<'o>,
 }
 
 impl<'o> Places<'o> {
-    fn of(alloc: Global, outline: &'o Outline<'_>) -> Result<Self, AllocError> {
-        let mut ranges = BTreeMap::new(alloc);
-        for each in &outline.ranges {
-            add_ranges(alloc, &mut ranges, each)?;
-        }
-        let declared = DeclarationPlaces::of_outline(alloc, outline)?;
-        Ok(Places { declared, ranges })
+    fn of(alloc: Global, file: &'o BrokenFile<'_>) -> Result<Self, AllocError> {
+        Ok(Places {
+            statements: StatementPlaces::of(alloc, file.tree)?,
+            declared: DeclarationPlaces::of_outline(alloc, &file.outline)?,
+            ranges: RangePlaces::of(alloc, &file.outline)?,
+        })
     }
 
-    /// The place of the statement that declares what breaks the rule: of a range its own.
+    /// The place of the statement that breaks the rule: of a range its own, and else the one that
+    /// declares what breaks it.
     fn of_violation(&self, violation: &Violation) -> Option<Place> {
-        let construct = violation.construct.as_str();
-        let of_range = match violation.rule {
-            Rule::RangeNotPositive { start } => self.range(construct, Wanted::From(start)),
-            Rule::RangeEmpty { start } => self.range(construct, Wanted::EmptyFrom(start)),
-            Rule::ExtensionRangeTooLarge { end } => self.range(construct, Wanted::Before(end)),
-            Rule::RangesOverlap { start } => self.range(construct, Wanted::From(start)),
-            _ => None,
-        };
-        if of_range.is_some() {
-            return of_range;
+        let own = self.of_statement(violation);
+        if own.is_some() {
+            return own;
         }
         for kind in kinds_of(violation.rule) {
-            let place = self.declared.place(*kind, construct);
+            let place = self.declared.place(*kind, &violation.construct);
             if place.is_some() {
                 return place;
             }
@@ -159,49 +206,24 @@ impl<'o> Places<'o> {
         None
     }
 
-    /// The first statement that has such a range.
-    fn range(&self, of: &str, wanted: Wanted) -> Option<Place> {
-        for site in self.ranges.get(of)? {
-            if is_wanted(site.range, wanted) {
-                return Some(site.place);
+    /// The place of the statement, where that declares nothing.
+    fn of_statement(&self, violation: &Violation) -> Option<Place> {
+        let construct = violation.construct.as_str();
+        match violation.rule {
+            Rule::LiteImport | Rule::ImportUnused => {
+                self.statements.import(violation.name.as_ref()?)
             }
+            Rule::ImportedTwice => self.statements.repeated_import(violation.name.as_ref()?),
+            Rule::NameInUse {
+                kind: NamedKind::Package,
+                ..
+            } => self.statements.package,
+            Rule::RangeNotPositive { start } => self.ranges.starting(construct, start),
+            Rule::RangesOverlap { start } => self.ranges.starting(construct, start),
+            Rule::RangeEmpty { start } => self.ranges.empty(construct, start),
+            Rule::ExtensionRangeTooLarge { end } => self.ranges.before(construct, end),
+            _ => None,
         }
-        None
-    }
-}
-
-fn add_ranges<'o>(
-    alloc: Global,
-    sites: &mut BTreeMap<&'o str, Vec<RangeSite>>,
-    each: &'o Ranges<'_>,
-) -> Result<(), AllocError> {
-    let place = each.place;
-    for range in each.ranges {
-        let range = *range;
-        sites
-            .entry(each.of.as_str())?
-            .or_insert(Vec::new(alloc))
-            .push(RangeSite { range, place })?;
-    }
-    Ok(())
-}
-
-/// Which range a violation speaks of.
-#[derive(Clone, Copy)]
-enum Wanted {
-    /// It begins at this number.
-    From(i32),
-    /// It begins at this number, and ends before it.
-    EmptyFrom(i32),
-    /// This number is the one behind it.
-    Before(i32),
-}
-
-fn is_wanted(range: FieldNumberRange, wanted: Wanted) -> bool {
-    match wanted {
-        Wanted::From(start) => range.from == start,
-        Wanted::EmptyFrom(start) => range.from == start && range.to < start,
-        Wanted::Before(end) => range.to.checked_add(1) == Some(end),
     }
 }
 
@@ -256,21 +278,34 @@ fn diagnostic_of(
     place: Option<Place>,
     violation: &Violation,
     level: RuleLevel,
-) -> Result<Diagnostic, AllocError> {
+) -> Result<Diagnostic, AllocError>
+    ensures { IfOk result (IsViolationTold level violation.now) }
+{
     let rule = violation.rule;
-    let severity = if level == RuleLevel::Warn || rule.is_warning() {
-        Severity::Warning
-    } else {
-        Severity::Error
-    };
     Ok(Diagnostic {
         file: String::from_str(alloc, origin)?,
         place,
-        severity,
+        severity: severity_of(level, rule),
         code: String::from_str(alloc, rule.code())?,
         message: message_of(alloc, violation)?,
         help: help_of(alloc, violation)?,
     })
+}
+
+/// How bad it is that the rule is broken.
+fn severity_of(level: RuleLevel, rule: Rule) -> Severity
+    ensures { result ≡ severity_of level rule }
+{
+    match level {
+        RuleLevel::Error => {
+            if rule.is_warning() {
+                Severity::Warning
+            } else {
+                Severity::Error
+            }
+        }
+        RuleLevel::Warn | RuleLevel::Off => Severity::Warning,
+    }
 }
 
 /// What is wrong with the construct, or with the file.

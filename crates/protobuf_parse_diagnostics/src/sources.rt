@@ -1,6 +1,10 @@
 //! The files that a run read.
 
+ghost use Rattle.std.specs.Prelude.{◌≡◌};
+ghost use Rattle.protobuf_parse_diagnostics.specs.Told.{origin_in};
+
 use crate::scan::place_behind;
+use protobuf_parse_check::FileReport;
 use protobuf_parse_run::{ReadEntry, ReadOutcome};
 use protobuf_parse_syntax::{FileStatement, FileTree, Import, ParserError, Place, parse_file};
 use std::alloc::{AllocError, Global};
@@ -84,7 +88,9 @@ impl<'a> Sources<'a> {
     }
 
     /// Where the file of this proto path lies; the path itself where nothing was read for it.
-    pub fn origin_of<'p>(&'p self, path: &'p str) -> &'p str {
+    pub fn origin_of<'p>(&'p self, path: &'p str) -> &'p str
+        ensures { result.now ≡ origin_in self.now path.now }
+    {
         match self.origins.get(path) {
             Some(origin) => *origin,
             None => path,
@@ -132,36 +138,81 @@ pub fn tree_of(alloc: Global, text: &str) -> Result<Option<FileTree>, AllocError
     }
 }
 
-/// A file with its tree.
+/// The tree of a file, by its proto path.
 #[derive(Drop)]
-pub struct Parsed<'a> {
-    pub source: Source<'a>,
+pub struct NamedTree {
+    pub path: String,
     pub tree: FileTree,
 }
 
-/// Those files that have a tree, in their order.
+/// Of each of the files its tree, if it has one, in their order. The one error is that memory is
+/// short.
+pub fn parsed_texts(
+    alloc: Global,
+    sources: &Sources<'_>,
+) -> Result<Vec<Option<FileTree>>, AllocError> {
+    let mut parsed = Vec::new(alloc);
+    for source in &sources.files {
+        parsed.push(tree_of(alloc, source.text)?)?;
+    }
+    Ok(parsed)
+}
+
+/// A file with its tree.
+#[derive(Clone, Copy)]
+pub struct Parsed<'t, 'a> {
+    pub source: Source<'a>,
+    pub tree: &'t FileTree,
+}
+
+/// Files that have a tree.
 #[derive(Drop)]
-pub struct Trees<'a> {
-    pub files: Vec<Parsed<'a>>,
+pub struct Trees<'t, 'a> {
+    pub files: Vec<Parsed<'t, 'a>>,
     by_path: BTreeMap<&'a str, usize>,
 }
 
-impl<'a> Trees<'a> {
-    /// The trees of the files. The one error is that memory is short.
-    pub fn of(alloc: Global, sources: &Sources<'a>) -> Result<Self, AllocError> {
-        let mut trees = Trees {
-            files: Vec::new(alloc),
-            by_path: BTreeMap::new(alloc),
-        };
-        for source in &sources.files {
-            if let Some(tree) = tree_of(alloc, source.text)? {
+impl<'t, 'a> Trees<'t, 'a> {
+    /// Those of these files that have a tree, in their order: `parsed` has one for each. The one
+    /// error is that memory is short.
+    pub fn of_texts(
+        alloc: Global,
+        sources: &Sources<'a>,
+        parsed: &'t [Option<FileTree>],
+    ) -> Result<Self, AllocError> {
+        let mut trees = Trees::none(alloc);
+        for (source, tree) in sources.files.iter().zip(parsed) {
+            if let Some(tree) = tree {
                 trees.add(*source, tree)?;
             }
         }
         Ok(trees)
     }
 
-    fn add(&mut self, source: Source<'a>, tree: FileTree) -> Result<(), AllocError> {
+    /// The files of these reports, in their order, without the imports that are told. The one error
+    /// is that memory is short.
+    pub fn of_reports(
+        alloc: Global,
+        sources: &Sources<'a>,
+        reports: &'t [FileReport],
+    ) -> Result<Self, AllocError> {
+        let mut trees = Trees::none(alloc);
+        for report in reports {
+            if let Some(source) = sources.of_path(&report.path) {
+                trees.add(*source, &report.tree)?;
+            }
+        }
+        Ok(trees)
+    }
+
+    fn none(alloc: Global) -> Self {
+        Trees {
+            files: Vec::new(alloc),
+            by_path: BTreeMap::new(alloc),
+        }
+    }
+
+    fn add(&mut self, source: Source<'a>, tree: &'t FileTree) -> Result<(), AllocError> {
         self.by_path.insert(source.path, self.files.len())?;
         self.files.push(Parsed { source, tree })?;
         Ok(())
@@ -173,8 +224,8 @@ impl<'a> Trees<'a> {
     }
 
     /// The file of this proto path.
-    pub fn of_path(&self, path: &str) -> Option<&Parsed<'a>> {
-        self.files.get(self.position(path)?)
+    pub fn of_path(&self, path: &str) -> Option<Parsed<'t, 'a>> {
+        self.files.get(self.position(path)?).copied()
     }
 
     /// The position of the first file that lies there.

@@ -1,42 +1,65 @@
 //! Statements of a file that declare nothing.
 
-use protobuf_parse_syntax::{FileStatement, FileTree, Place};
+use protobuf_parse_syntax::{FileStatement, FileTree, Import, Place};
+use std::alloc::{AllocError, Global};
+use std::collections::BTreeMap;
 
-/// The place of the first statement that imports the path.
-pub fn import_statement(tree: &FileTree, path: &str) -> Option<Place> {
-    for statement in &tree.statements {
-        if let FileStatement::Import(import) = statement {
-            if import.path.as_path().to_str() == path {
-                return Some(import.place);
-            }
-        }
-    }
-    None
+/// Where a file imports others, and where it names its package.
+#[derive(Drop)]
+pub struct StatementPlaces<'t> {
+    imports: BTreeMap<&'t str, ImportPlaces>,
+    /// The last statement that names the package, which is the one that counts.
+    pub package: Option<Place>,
 }
 
-/// The place of the second statement that imports the path.
-pub fn repeated_import(tree: &FileTree, path: &str) -> Option<Place> {
-    let mut seen = false;
-    for statement in &tree.statements {
-        if let FileStatement::Import(import) = statement {
-            if import.path.as_path().to_str() == path {
-                if seen {
-                    return Some(import.place);
-                }
-                seen = true;
-            }
-        }
-    }
-    None
+/// The first two statements that import a path.
+#[derive(Clone, Copy)]
+struct ImportPlaces {
+    first: Place,
+    second: Option<Place>,
 }
 
-/// The place of the last statement that names the file's package, which is the one that counts.
-pub fn package_statement(tree: &FileTree) -> Option<Place> {
-    let mut place = None;
-    for statement in &tree.statements {
-        if let FileStatement::Package(package) = statement {
-            place = Some(package.place);
+impl<'t> StatementPlaces<'t> {
+    /// Those of a tree. The one error is that memory is short.
+    pub fn of(alloc: Global, tree: &'t FileTree) -> Result<Self, AllocError> {
+        let mut places = StatementPlaces {
+            imports: BTreeMap::new(alloc),
+            package: None,
+        };
+        for statement in &tree.statements {
+            match statement {
+                FileStatement::Import(import) => places.add_import(import)?,
+                FileStatement::Package(package) => places.package = Some(package.place),
+                _ => {}
+            }
         }
+        Ok(places)
     }
-    place
+
+    fn add_import(&mut self, import: &'t Import) -> Result<(), AllocError> {
+        let path = import.path.as_path().to_str();
+        let place = import.place;
+        let places = match self.imports.get(path) {
+            None => ImportPlaces {
+                first: place,
+                second: None,
+            },
+            Some(places) => ImportPlaces {
+                first: places.first,
+                second: Some(places.second.unwrap_or(place)),
+            },
+        };
+        self.imports.insert(path, places)?;
+        Ok(())
+    }
+
+    /// The place of the first statement that imports the path.
+    pub fn import(&self, path: &str) -> Option<Place> {
+        Some(self.imports.get(path)?.first)
+    }
+
+    /// The place of the second one.
+    pub fn repeated_import(&self, path: &str) -> Option<Place> {
+        self.imports.get(path)?.second
+    }
 }

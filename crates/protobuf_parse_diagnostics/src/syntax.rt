@@ -1,5 +1,8 @@
 //! Faults of syntax as sentences: S1 to S20.
 
+ghost use Rattle.std.specs.Prelude.{◌≡◌};
+ghost use Rattle.protobuf_parse_diagnostics.specs.Codes.{syntax_code_of};
+
 use crate::paths::{path_code, path_sentence};
 use crate::scan::{Shown, character_at, token_at, word_at};
 use protobuf_parse_syntax::{ParserError, Place};
@@ -36,7 +39,9 @@ impl Sentence {
 }
 
 /// The code of a fault of syntax: S1 to S20. Want of memory has none.
-pub fn syntax_code(fault: ParserError) -> &'static str {
+pub fn syntax_code(fault: ParserError) -> &'static str
+    ensures { result.now ≡ syntax_code_of fault }
+{
     match fault {
         ParserError::Memory => "",
         ParserError::UnexpectedCharacter => "S1",

@@ -167,27 +167,61 @@ fn tells_all_that_is_missing(rt: HostRuntime) -> Result<(), Fail> {
 }
 
 #[test]
-fn tells_that_there_may_be_more(rt: HostRuntime) -> Result<(), Fail> {
+fn tells_what_stands_in_each_file(rt: HostRuntime) -> Result<(), Fail> {
     let mut paths = Vec::new(rt.alloc());
-    for i in 0..102u32 {
+    for i in 100..220u32 {
         let name = format!(in rt.alloc(); "twice_{i}.proto")?;
         let path = own_path(&rt, &name)?;
         fs::write(&rt, path.as_str(), b"message M {} message M {}")?;
         paths.push(path)?;
     }
     let mut args: Vec<&str> = Vec::new(rt.alloc());
+    let mut want = String::new(rt.alloc());
     for path in &paths {
         args.push(path.as_str())?;
+        write!(
+            want,
+            "{path}:1:14: error: the type \"M\" is declared twice; it stands at {path}:1:1 too [E5]\n"
+        )?;
     }
     let outcome = run(&rt, &args)?;
     for path in &paths {
         fs::remove_file(&rt, path.as_str())?;
     }
-    assert_eq!(rt; outcome.status, 1);
-    // Each of a hundred checks ends at one file, and the run over the two others at one more.
-    assert_eq!(rt; count_lines(&outcome.err), 102);
-    let last = b"\nthere may be more, in files that were not reached\n";
-    assert!(rt; outcome.err.as_slice().ends_with(last));
+    expect(&rt, &outcome, 1, "", &want);
+    Ok(())
+}
+
+#[test]
+fn tells_what_is_wrong_beside_what_is_missing(rt: HostRuntime) -> Result<(), Fail> {
+    let alloc = rt.alloc();
+    let below = own_path(&rt, "below.proto")?;
+    let lost = own_path(&rt, "lost_import.proto")?;
+    let over = own_path(&rt, "over_lost.proto")?;
+    fs::write(&rt, below.as_str(), b"message B { optional Nope n = 1; }")?;
+    let text = format!(in alloc;
+        "import '{below}';\nimport 'protobuf_parse_lost.proto';\n\
+         message L {{ optional Gone g = 1; optional int32 x = 2; optional int32 x = 3; }}"
+    )?;
+    fs::write(&rt, lost.as_str(), text.as_bytes())?;
+    let text = format!(in alloc;
+        "import '{lost}';\nimport 'protobuf_parse_lost.proto';\nmessage O {{ optional L l = 1; }}"
+    )?;
+    fs::write(&rt, over.as_str(), text.as_bytes())?;
+    let outcome = run(&rt, &[&over])?;
+    for path in [&below, &lost, &over] {
+        fs::remove_file(&rt, path.as_str())?;
+    }
+    // `Gone` may be declared in the file that is missing; `Nope` is missing in a file that sees all.
+    let sentence = "error: the imported file \"protobuf_parse_lost.proto\" is not found; \
+        it was looked for in [\"\"] [L2]";
+    let want = format!(in alloc;
+        "{below}:1:13: error: \"Nope\" is not defined [E3]\n\
+         {lost}:2:1: {sentence}\n\
+         {lost}:3:56: error: \"x\" is declared already; `L.x` stands at 3:34 [E1]\n\
+         {over}:2:1: {sentence}\n"
+    )?;
+    expect(&rt, &outcome, 1, "", &want);
     Ok(())
 }
 

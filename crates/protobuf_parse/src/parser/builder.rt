@@ -8,7 +8,7 @@ ghost use Rattle.protobuf_parse_run.specs.Run.{IsCaused, input_view, rows, shipp
 ghost use Rattle.protobuf_parse.specs.Includes.{part_views};
 ghost use Rattle.protobuf_parse.specs.Folders.{MayFind};
 ghost use Rattle.protobuf_parse.specs.NameSets.{HasNames};
-ghost use Rattle.protobuf_parse.specs.Checking.{AreReported, TellsCheckFault};
+ghost use Rattle.protobuf_parse.specs.Checking.{IsCheckOfInputs, TellsCheckFault};
 ghost use Rattle.protobuf_parse.specs.Outcomes.{CheckedOverFolders};
 ghost use Rattle.protobuf_parse_model.specs.Descriptors.{Text};
 ghost use Rattle.protobuf_parse.specs.Parsers.{IsParsed, IsSameParser, IsSetOfInputs};
@@ -20,9 +20,10 @@ ghost use Rattle.protobuf_parse.specs.Parsers.{is_name_among, is_of_input};
 use crate::parser::files::{FsReader, copy_texts, fs_resolver};
 use crate::parser::includes::proto_paths_of;
 use protobuf_parse_base::proto_path::ProtoPathBuf;
+use protobuf_parse_check::{Check, CheckLog, check_inputs};
 use protobuf_parse_google::google_files;
 use protobuf_parse_model::{FileDescriptorProto, FileDescriptorSet};
-use protobuf_parse_run::{FileReport, RunFault, RunInput, bundled_files, check_inputs, run_inputs};
+use protobuf_parse_run::{RunFault, RunInput, bundled_files, run_inputs};
 use std::alloc::{AllocError, Global};
 use std::collections::BTreeSet;
 use std::rt::Files;
@@ -259,27 +260,26 @@ impl Parser {
         Ok(FileDescriptorSet { file })
     }
 
-    /// All that is wrong in the inputs and in the files that they import: a report of each file, in
-    /// the order of [`Parser::parse_and_typecheck`].
+    /// Checks the inputs and all files that they reach, and tells all that is wrong in them: what
+    /// can't be followed at each statement that asks for it, inputs that others shadow, and every
+    /// fault of each file, at its place. Nothing ends a check but want of memory.
     ///
-    /// A report has E1 to E4 and E7 to E13 of its file; where it has none of these, and no file
-    /// that it reaches has any, those of its custom options, E9 and E14 to E28. Any other fault of
-    /// [`Parser::parse_and_typecheck`] is the error, also E5 and E6, as L10: what other files say
-    /// isn't told then.
+    /// All inputs get their proto paths before any file is read: the error is L3 or L11 of the
+    /// first one that gets none.
     ///
     /// ```
-    /// for report in &parser.check(&rt)? {
+    /// for report in &parser.check(&rt)?.files {
     ///     for fault in &report.faults {
     ///         let line = fault.place.line;
     ///         print!(rt; "{}:{line}: {fault}\n", report.path)?;
     ///     }
     /// }
     /// ```
-    pub fn check<R: Files + AllocGlobal>(&self, rt: &R) -> Result<Vec<FileReport>, RunFault>
-        ensures reports { IfOk result (AreReported (bundled_of self.now)
+    pub fn check<R: Files + AllocGlobal>(&self, rt: &R) -> Result<Check, RunFault>
+        ensures told { IfOk result (IsCheckOfInputs (bundled_of self.now)
             (includes_of self.now) (inputs_of self.now)) }
-        ensures fault { IfErr result (TellsCheckFault (bundled_of self.now)
-            (includes_of self.now) (inputs_of self.now)) }
+        ensures fault { IfErr result (TellsCheckFault (includes_of self.now)
+            (inputs_of self.now)) }
     {
         let names = proto_paths_of(rt.alloc(), &self.includes, &self.inputs)?;
         self.check_over_folders(rt, &names)
@@ -305,12 +305,12 @@ impl Parser {
         run_inputs(alloc, &given, &resolver, &reader, self.bundled()).result
     }
 
-    /// The result of the check of the inputs by these proto paths, with imports from the includes.
+    /// What the check of the inputs by these proto paths tells, with imports from the includes.
     fn check_over_folders<R: Files + AllocGlobal>(
         &self,
         rt: &R,
         names: &[ProtoPathBuf],
-    ) -> Result<Vec<FileReport>, RunFault>
+    ) -> Result<Check, RunFault>
         requires { length names.now ≡ length self.now.inputs.items }
         ensures checked { CheckedOverFolders (bundled_of self.now) (includes_of self.now)
             (inputs_of self.now) (map path_buf_text names.now) result }
@@ -320,7 +320,12 @@ impl Parser {
         let resolver = fs_resolver(rt, alloc, &folders)?;
         let reader = FsReader::new(rt);
         let given = place_inputs(alloc, &self.inputs, names)?;
-        check_inputs(alloc, &given, &resolver, &reader, self.bundled()).result
+        let log = check_inputs(alloc, &given, &resolver, &reader, self.bundled());
+        let CheckLog { reads: _, result } = log;
+        match result {
+            Ok(check) => Ok(check),
+            Err(_) => Err(RunFault::Memory),
+        }
     }
 
     /// The table of the bundled files.
@@ -387,9 +392,10 @@ fn place_inputs(
     Ok(given)
 }
 
-/// Those of the files whose name is one of these, in order.
+/// Those of the files whose name is one of these proto paths, in order: of what a run or a check of
+/// inputs has, the descriptors of the inputs alone. The one error is that memory is short.
 #[tactic(auto, using(crate::proofs::Building::kept_one, crate::proofs::Building::left_one))]
-fn files_of_inputs(
+pub fn files_of_inputs(
     alloc: Global,
     names: &[ProtoPathBuf],
     files: Vec<FileDescriptorProto>,

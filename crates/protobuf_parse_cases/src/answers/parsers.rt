@@ -1,6 +1,6 @@
 //! Parsers over the real folders that stand beside the files of cases.
 
-use super::checks::put_reports;
+use super::checks::put_check;
 use super::google::beside_stored;
 use super::texts::without_last_feed;
 use super::{Nested, given_of};
@@ -89,11 +89,11 @@ fn listed<R: Files + AllocGlobal>(rt: &R, given: &str) -> Result<String, RunFaul
     Ok(without_last_feed(alloc, &text)?)
 }
 
-/// The reports of the parser's check.
+/// What the parser's check tells.
 fn reported<R: Files + AllocGlobal>(rt: &R, given: &str) -> Result<String, RunFault> {
-    let reports = parser_of(rt.alloc(), given)?.check(rt)?;
+    let check = parser_of(rt.alloc(), given)?.check(rt)?;
     let mut text = String::new(rt.alloc());
-    put_reports(&mut text, &reports)?;
+    put_check(&mut text, &check)?;
     Ok(text)
 }
 

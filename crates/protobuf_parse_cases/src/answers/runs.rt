@@ -201,17 +201,19 @@ fn told(alloc: Global, log: &RunLog) -> Result<String, AllocError> {
         Ok(files) => put_names(&mut text, files)?,
         Err(fault) => write!(&mut text, "{fault} ")?,
     }
-    put_reads(&mut text, &log.reads, log.meets)?;
+    put_reads(&mut text, &log.reads)?;
+    let meets = log.meets;
+    write!(&mut text, " | {meets}")?;
     Ok(text)
 }
 
-/// Each read with what was answered, and how often a file was met.
-pub fn put_reads(text: &mut String, reads: &[ReadEntry], meets: u128) -> Result<(), AllocError> {
+/// Each read with what was answered.
+pub fn put_reads(text: &mut String, reads: &[ReadEntry]) -> Result<(), AllocError> {
     text.push('|')?;
     for entry in reads {
         put_answer(text, entry)?;
     }
-    write!(text, " | {meets}")
+    Ok(())
 }
 
 fn put_names(text: &mut String, files: &[FileDescriptorProto]) -> Result<(), AllocError> {

@@ -5,20 +5,16 @@ use super::texts::without_last_feed;
 use crate::cases::{Case, CaseFile, Row};
 use crate::files::Files;
 use anyhow::Result;
-use protobuf_parse::{
-    CheckLog, FileDescriptorProto, ProtoPathBuf, ReadEntry, RunFault, RunInput, bundled_files,
-    check_inputs, run_inputs,
-};
+use protobuf_parse::{CheckLog, FileReport, ProtoPathBuf, RunInput, bundled_files, check_inputs};
 use protobuf_parse_diagnostics::{
-    Diagnostic, RuleLevel, Sources, arrange, fault_diagnostic, report_diagnostics, rule_diagnostics,
+    Diagnostic, NoReasons, RuleLevel, Sources, arrange, check_diagnostics, rule_diagnostics,
 };
 use protobuf_parse_rules::violations;
 use std::alloc::{AllocError, Global};
 
 /// What is told of the inputs behind the verb, with the files that the library brings: a line for
-/// each fault that a check gathers, or for what ended it; where a run has no fault, for each
-/// violation of a rule; or nothing. A row's text is the file
-/// `f.proto`, beside the files of the case, and is then the input.
+/// each fault that a check finds; where it finds none, for each violation of a rule; or nothing. A
+/// row's text is the file `f.proto`, beside the files of the case, and is then the input.
 pub fn told(alloc: Global, case: &Case, row: &Row) -> Result<String> {
     let Some(content) = &row.given else {
         return Ok(told_of(alloc, &case.argument, &case.files)?);
@@ -36,15 +32,19 @@ fn told_of(alloc: Global, words: &str, files: &[CaseFile]) -> Result<String, All
         }
     }
     let source = Files { files };
-    let log = run_inputs(alloc, &inputs, &source, &source, bundled_files());
-    let mut told = match &log.result {
-        Ok(found) => told_of_rules(alloc, &log.reads, found)?,
-        Err(RunFault::Memory) => return Err(AllocError),
-        Err(_) => told_of_check(
-            alloc,
-            &check_inputs(alloc, &inputs, &source, &source, bundled_files()),
-        )?,
-    };
+    let CheckLog { reads, result } = check_inputs(
+        alloc,
+        &inputs,
+        &source,
+        &source,
+        bundled_files(),
+    );
+    let check = result?;
+    let sources = Sources::of_reads(alloc, &reads, bundled_files())?;
+    let mut told = check_diagnostics(alloc, &sources, &check, &NoReasons)?;
+    if told.is_empty() {
+        told.append(&mut told_of_rules(alloc, &sources, check.files)?)?;
+    }
     arrange(&mut told)?;
     let mut text = String::new(alloc);
     for each in &told {
@@ -55,22 +55,13 @@ fn told_of(alloc: Global, words: &str, files: &[CaseFile]) -> Result<String, All
 
 fn told_of_rules(
     alloc: Global,
-    reads: &[ReadEntry],
-    files: &[FileDescriptorProto],
+    sources: &Sources<'_>,
+    reports: Vec<FileReport>,
 ) -> Result<Vec<Diagnostic>, AllocError> {
-    let sources = Sources::of_reads(alloc, reads, bundled_files())?;
-    let found = violations(alloc, files)?;
-    rule_diagnostics(alloc, &sources, &found, RuleLevel::Error)
-}
-
-fn told_of_check(alloc: Global, log: &CheckLog) -> Result<Vec<Diagnostic>, AllocError> {
-    let sources = Sources::of_reads(alloc, &log.reads, bundled_files())?;
-    match &log.result {
-        Ok(reports) => report_diagnostics(alloc, &sources, reports),
-        Err(fault) => {
-            let mut told = Vec::new(alloc);
-            told.push(fault_diagnostic(alloc, &sources, fault)?)?;
-            Ok(told)
-        }
+    let mut files = Vec::new(alloc);
+    for report in reports {
+        files.push(report.descriptor)?;
     }
+    let found = violations(alloc, &files)?;
+    rule_diagnostics(alloc, sources, &found, RuleLevel::Error)
 }

@@ -12,8 +12,10 @@ use std::collections::BTreeMap;
 /// What is told of names by themselves, each once made: many faults may speak of one name.
 #[derive(Drop)]
 pub struct Hints<'e> {
-    /// By the code of the fault and the name.
-    told: BTreeMap<(&'static str, &'e str), Option<String>>,
+    /// What a file tells of a name, by the file's position, the code of the fault and the name.
+    told: BTreeMap<(usize, &'static str, &'e str), Option<String>>,
+    /// What fields of a name take, whatever file asks.
+    taken: BTreeMap<&'e str, Option<String>>,
 }
 
 impl<'e> Hints<'e> {
@@ -21,6 +23,7 @@ impl<'e> Hints<'e> {
     pub fn new(alloc: Global) -> Self {
         Hints {
             told: BTreeMap::new(alloc),
+            taken: BTreeMap::new(alloc),
         }
     }
 
@@ -32,21 +35,43 @@ impl<'e> Hints<'e> {
         sight: &Sight<'_, '_, '_, '_>,
         error: &'e ElabError,
     ) -> Result<Option<String>, AllocError> {
-        let what = error.what.as_str();
-        let key = (meaning_code(error.kind), what);
+        match error.kind {
+            ElabErrorKind::NotFoundByAbsPath
+            | ElabErrorKind::NotFoundByRelPath
+            | ElabErrorKind::ExtensionNotFound => self.declaration_hint(alloc, sight, error),
+            ElabErrorKind::UnsupportedExtensionType | ElabErrorKind::IntegerOutOfRange => {
+                self.values_hint(alloc, sight, error.what.as_str())
+            }
+            _ => Ok(None),
+        }
+    }
+
+    fn declaration_hint(
+        &mut self,
+        alloc: Global,
+        sight: &Sight<'_, '_, '_, '_>,
+        error: &'e ElabError,
+    ) -> Result<Option<String>, AllocError> {
+        let key = (sight.at, meaning_code(error.kind), error.what.as_str());
         if let Some(told) = self.told.get(&key) {
             return copied(alloc, told);
         }
-        let hint = match error.kind {
-            ElabErrorKind::NotFoundByAbsPath
-            | ElabErrorKind::NotFoundByRelPath
-            | ElabErrorKind::ExtensionNotFound => where_declared(alloc, sight, error)?,
-            ElabErrorKind::UnsupportedExtensionType | ElabErrorKind::IntegerOutOfRange => {
-                type_hint(alloc, sight, what)?
-            }
-            _ => return Ok(None),
-        };
+        let hint = where_declared(alloc, sight, error)?;
         self.told.insert(key, copied(alloc, &hint)?)?;
+        Ok(hint)
+    }
+
+    fn values_hint(
+        &mut self,
+        alloc: Global,
+        sight: &Sight<'_, '_, '_, '_>,
+        name: &'e str,
+    ) -> Result<Option<String>, AllocError> {
+        if let Some(taken) = self.taken.get(name) {
+            return copied(alloc, taken);
+        }
+        let hint = type_hint(alloc, sight, name)?;
+        self.taken.insert(name, copied(alloc, &hint)?)?;
         Ok(hint)
     }
 }
@@ -150,9 +175,9 @@ pub fn declared_twice(
     };
     let mut text = String::new(alloc);
     let mut is_told_here = false;
-    for found in all {
+    for found in &sight.reached_of(alloc, all)? {
         let Found { declared, file } = *found;
-        if !sight.reaches(file) || !is_spoken_of(declared, error) {
+        if !is_spoken_of(declared, error) {
             continue;
         }
         if file == sight.at && declared.place == error.place {

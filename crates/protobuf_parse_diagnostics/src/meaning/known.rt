@@ -4,7 +4,7 @@ use crate::imports::{reached, seen};
 use crate::outline::{Declared, Outline};
 use crate::sources::{Source, Trees};
 use std::alloc::{AllocError, Global};
-use std::collections::BTreeMap;
+use std::collections::{BTreeMap, BTreeSet};
 
 /// A file, and what its tree declares.
 #[derive(Drop)]
@@ -16,13 +16,13 @@ pub struct KnownFile<'t, 'a> {
 /// The files of these trees, in their order. The one error is that memory is short.
 pub fn known_files<'t, 'a>(
     alloc: Global,
-    trees: &'t Trees<'a>,
+    trees: &Trees<'t, 'a>,
 ) -> Result<Vec<KnownFile<'t, 'a>>, AllocError> {
     let mut files = Vec::new(alloc);
     for file in &trees.files {
         files.push(KnownFile {
             source: file.source,
-            outline: Outline::of(alloc, &file.tree)?,
+            outline: Outline::of(alloc, file.tree)?,
         })?;
     }
     Ok(files)
@@ -74,23 +74,23 @@ pub struct Sight<'s, 'k, 't, 'a> {
     pub known: &'s Known<'k, 't, 'a>,
     /// The position of that one file.
     pub at: usize,
-    sees: Vec<bool>,
-    reaches: Vec<bool>,
+    sees: BTreeSet<usize>,
+    reaches: BTreeSet<usize>,
 }
 
 impl<'s, 'k, 't, 'a> Sight<'s, 'k, 't, 'a> {
     /// The files as the one at this position sees them. The one error is that memory is short.
     pub fn of(
         alloc: Global,
-        trees: &Trees<'a>,
+        trees: &Trees<'_, 'a>,
         known: &'s Known<'k, 't, 'a>,
         at: usize,
     ) -> Result<Self, AllocError> {
         Ok(Sight {
             known,
             at,
-            sees: flags(alloc, trees, &seen(alloc, trees, at)?)?,
-            reaches: flags(alloc, trees, &reached(alloc, trees, at)?)?,
+            sees: seen(alloc, trees, at)?,
+            reaches: reached(alloc, trees, at)?,
         })
     }
 
@@ -101,25 +101,34 @@ impl<'s, 'k, 't, 'a> Sight<'s, 'k, 't, 'a> {
 
     /// Whether it sees the file at that position.
     pub fn sees(&self, file: usize) -> bool {
-        is_set(&self.sees, file)
+        self.sees.contains(&file)
     }
 
-    /// Whether it reaches the file at that position.
-    pub fn reaches(&self, file: usize) -> bool {
-        is_set(&self.reaches, file)
-    }
-}
-
-fn flags(alloc: Global, trees: &Trees<'_>, positions: &[usize]) -> Result<Vec<bool>, AllocError> {
-    let mut flags = vec![in alloc; false; trees.files.len()]?;
-    for position in positions {
-        if let Some(flag) = flags.get_mut(*position) {
-            *flag = true;
+    /// Of these declarations those of files that it reaches, in their order.
+    pub fn reached_of(
+        &self,
+        alloc: Global,
+        all: &[Found<'k, 't>],
+    ) -> Result<Vec<Found<'k, 't>>, AllocError> {
+        let mut reached = Vec::new(alloc);
+        if all.len() <= self.reaches.len() {
+            for found in all {
+                if self.reaches.contains(&found.file) {
+                    reached.push(*found)?;
+                }
+            }
+            return Ok(reached);
         }
+        // Many files may declare one name, each of which reaches few others.
+        for file in self.reaches.iter() {
+            let first = all.partition_point(|found| found.file < *file);
+            for found in all.iter().skip(first) {
+                if found.file != *file {
+                    break;
+                }
+                reached.push(*found)?;
+            }
+        }
+        Ok(reached)
     }
-    Ok(flags)
-}
-
-fn is_set(flags: &[bool], position: usize) -> bool {
-    flags.get(position).copied().unwrap_or(false)
 }

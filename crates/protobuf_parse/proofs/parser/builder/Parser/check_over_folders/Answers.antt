@@ -7,8 +7,8 @@ use Rattle.protobuf_parse_run.specs.Run.{input_view}
 use Rattle.protobuf_parse.proofs.Checking.{checked-over}
 use Rattle.protobuf_parse.proofs.parser.builder.Parser.check_over_folders.Goals as goal
 
-pub returns : goal.returns
-returns g c =
+pub returns-in-Ok : goal.returns-in-Ok
+returns-in-Ok g c =
     let folders : map string_bytes c.in_ok-resolver.resolver.includes.items
     ≡ includes_of c.args.self.now =
     c.in_ok-resolver.ensures.includes
@@ -19,7 +19,8 @@ returns g c =
     ∙ ap (λ z. inputs_at (map path_buf_text c.args.names.now) (map string_bytes z))
     c.deref-3.ensures.value) in
     record {
-      checked = checked-over _ _ _ _ c.check_inputs.result.reads.items _ _ _ _ folders is
-          c.bundled.ensures c.check_inputs.ensures.trees c.check_inputs.ensures.lists
-          c.check_inputs.ensures.told;
+      checked = checked-over _ _ _ _ c.check_inputs-log.result.reads.items _ _ _ c.in-Ok.check
+          folders is c.bundled.ensures c.check_inputs-log.ensures.trees
+          c.check_inputs-log.ensures.lists
+          (rw c.in-Ok.is at c.check_inputs-log.ensures.told);
     }

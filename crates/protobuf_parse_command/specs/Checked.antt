@@ -1,0 +1,36 @@
+-- No public clause rests on this file.
+-- What the command tells of a check, and which files it goes on with.
+use Rattle.std.specs.Prelude.{◌≡◌, ◌++◌, Bool, List, filter, map, Result, Ok}
+use Rattle.std.specs.declared.alloc.AllocError.{AllocError}
+use Rattle.protobuf_parse_base.specs.declared.proto_path.path.ProtoPathBuf.{ProtoPathBuf}
+use Rattle.protobuf_parse_rules.specs.declared.violation.Violation.{Violation}
+use Rattle.protobuf_parse_check.specs.declared.report.Check.{Check}
+use Rattle.protobuf_parse_diagnostics.specs.Arranged.{IsArranged}
+use Rattle.protobuf_parse_diagnostics.specs.Broken.{AreViolationsTold, told_at_level}
+use Rattle.protobuf_parse_diagnostics.specs.Told.{AreTold, check_lines}
+use Rattle.protobuf_parse_diagnostics.specs.declared.diagnostic.Diagnostic.{Diagnostic}
+use Rattle.protobuf_parse_diagnostics.specs.declared.rules.RuleLevel.{RuleLevel}
+use Rattle.protobuf_parse_diagnostics.specs.declared.sources.Sources.{Sources}
+use Rattle.protobuf_parse_command.specs.declared.check.Checked.{Checked}
+use Rattle.protobuf_parse_command.specs.Sound.{descriptor_in, is_sound}
+
+-- What is told of rules at this level: one of each of some violations.
+pub record AreRulesTold (at : RuleLevel) (told : List Diagnostic) : Type 0 where
+  pub violations : List Violation
+  pub each : AreViolationsTold at (told_at_level at violations) told
+
+-- The check was done. Told is what was told before it, each of its faults and each violation, put
+-- in order; the files are the sound ones.
+pub record IsChecked (eq : Diagnostic → Diagnostic → Bool) (at : RuleLevel)
+    (before : List Diagnostic) (inputs : List ProtoPathBuf) (result : Result Check AllocError)
+    (checked : Checked) : Type 0 where
+  pub check : Check
+  pub done : result ≡ Ok check
+  pub sources : Sources
+  pub faults : List Diagnostic
+  pub faults_told : AreTold (check_lines sources check) faults
+  pub rules : List Diagnostic
+  pub rules_told : AreRulesTold at rules
+  pub told : IsArranged eq ((before ++ faults) ++ rules) checked.told.items
+  pub files : checked.files.items ≡ map descriptor_in (filter is_sound check.files.items)
+  pub named : checked.inputs.items ≡ inputs

@@ -1,0 +1,5 @@
+pub mod Views
+pub mod Wire
+pub mod Unplaced
+pub mod Splitting
+pub mod Laws
