@@ -5,10 +5,10 @@
 
 Run it at the top of the repository, once `rt run` has built the programs in
 crates/protobuf_parse_program and crates/protobuf_parse_bench, with nothing else on the machine.
-TABLE is one of sizes, attacks, files, options, faults, lexing, beside; without one all are measured;
-faults needs the command, which `rt run` builds in crates/protobuf_parse_cli. A time is
-user and system time together, the best of N runs; memory is the most that the process held, in MB
-of 1,048,576 bytes; instructions are those that valgrind's callgrind counts.
+TABLE is one of sizes, attacks, files, options, faults, checks, lexing, beside; without one all are
+measured; faults and checks need the command, which `rt run` builds in crates/protobuf_parse_cli. A
+time is user and system time together, the best of N runs; memory is the most that the process held,
+in MB of 1,048,576 bytes; instructions are those that valgrind's callgrind counts.
 """
 
 import argparse
@@ -170,6 +170,60 @@ def faults(m):
         )
 
 
+def twice_named(m, is_faulty):
+    """100 files with an E5 each, over one import of 400 messages."""
+    body = "".join(f"message M{i} {{ int32 a = 1; string b = 2; }}\n" for i in range(400))
+    m.write("base.proto", ['syntax = "proto3";\n', body])
+    names = [f"twice{i}.proto" for i in range(100)]
+    for i, name in enumerate(names):
+        other = f"A{i}" if is_faulty else f"B{i}"
+        text = f"message A{i} {{ M{i} m = 1; }}\nmessage {other} {{}}\n"
+        m.write(name, ['syntax = "proto3";\nimport "base.proto";\n', text])
+    return names
+
+
+def lost_type(m, is_faulty):
+    """One E3 in a file that imports 4,000 messages."""
+    m.write("base.proto", scalars(4000))
+    type_ = "Nowhere" if is_faulty else "GeneratedMessage7"
+    text = f"message M {{ {type_} m = 1; GeneratedMessage5 n = 2; }}\n"
+    m.write("lost.proto", ['syntax = "proto3";\nimport "base.proto";\n', text])
+    return ["lost.proto"]
+
+
+def many_files(m, is_faulty):
+    """10,000 files, each of which imports the one before it of a group of ten; with faults in 5,000
+    of them: names that are declared twice, types that are missing, imports that are missing, a text
+    without a tree."""
+    for i in range(10000):
+        imports = f'import "f{i - 1}.proto";\n' if i % 10 else ""
+        field = f"M{i - 1} before = 1;" if i % 10 else ""
+        wrong = ""
+        if is_faulty and i % 2:
+            wrong = (
+                f"message M{i} {{}}\n", "message N { Nowhere n = 1; }\n",
+                'import "nowhere.proto";\n', "message N { int32 a = 1; int32 a = 2; }\n",
+                "message {\n",
+            )[i // 2 % 5]  # fmt: skip
+        text = f"message M{i} {{ {field} int32 a = 2; string b = 3; }}\n"
+        m.write(f"f{i}.proto", ['syntax = "proto3";\n', imports, text, wrong])
+    imports = [f'import "f{i}.proto";\n' for i in range(9, 10000, 10)]
+    m.write("all.proto", ['syntax = "proto3";\n', *imports])
+    return ["all.proto"]
+
+
+def checks(m):
+    print("| what | clean | with faults |\n|---|---|---|")
+    for made in (twice_named, lost_type, many_files):
+        counts = []
+        for is_faulty in (False, True):
+            names = made(m, is_faulty)
+            time, _, _ = m.run(CLI, "--rules=off", *names, status=1 if is_faulty else 0)
+            count = m.instructions(CLI, "--rules=off", *names)
+            counts.append(f"{count} million, {time:.3f} s")
+        print(f"| `{made.__name__}` | {' | '.join(counts)} |")
+
+
 def lexing(m):
     for text, n in ((scalars, 4000), (of_all_kinds, 3000), (scalars, 16000)):
         size = m.write("f.proto", text(n))
@@ -190,7 +244,8 @@ def beside(m):
             print(f"| {text.__name__} {n} | {name} | {time:.3f} s | {memory:.0f} MB | {count} |")
 
 
-TABLES = {t.__name__: t for t in (sizes, attacks, files, options, faults, lexing, beside)}
+TABLES = (sizes, attacks, files, options, faults, checks, lexing, beside)
+TABLES = {table.__name__: table for table in TABLES}
 
 
 def main():
