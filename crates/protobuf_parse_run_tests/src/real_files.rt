@@ -4,7 +4,8 @@
 use crate::outcome::own_path;
 use protobuf_parse::pure::parse_and_typecheck_custom;
 use protobuf_parse::{
-    FsReader, InputReader, Parser, ProtoPath, ProtoPathBuf, ProtoPathResolver, fs_resolver,
+    FileState, FsReader, InputReader, Parser, ProtoPath, ProtoPathBuf, ProtoPathResolver,
+    fs_resolver,
 };
 use std::test::Fail;
 use std::{fs, process};
@@ -78,8 +79,10 @@ fn google_files_are_there_where_asked_for(rt: HostRuntime) -> Result<(), Fail> {
         assert_eq!(rt; format!(in alloc; "{told}")?.as_str(), fault);
         parser.google_files();
         assert_eq!(rt; parser.file_descriptor_set(&rt)?.file.len(), 1);
-        for report in &parser.check(&rt)? {
-            assert!(rt; report.faults.is_empty());
+        let check = parser.check(&rt)?;
+        assert!(rt; !check.files.is_empty());
+        for report in &check.files {
+            assert!(rt; report.state == FileState::Sound);
         }
     }
     fs::remove_file(&rt, path.as_str())?;
