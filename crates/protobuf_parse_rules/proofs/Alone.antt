@@ -21,10 +21,13 @@ use Rattle.protobuf_parse_rules.specs.Limits.{limit}
 use Rattle.protobuf_parse_rules.specs.Maps.{is_entry, key_type}
 use Rattle.protobuf_parse_rules.specs.MessageSets.{field_of_set}
 use Rattle.protobuf_parse_rules.specs.Numbers.{claims, number_rule}
+use Rattle.protobuf_parse_rules.specs.Methods.{methods_breaches, service_breaches}
+use Rattle.protobuf_parse_rules.specs.Nesting.{deep_messages}
 use Rattle.protobuf_parse_rules.specs.Oneofs.{empty_oneofs}
 use Rattle.protobuf_parse_rules.specs.Bodies.{Content, BodyParts, enums_of, extensions_of}
 use Rattle.protobuf_parse_rules.specs.Bodies.{fields_of}
 use Rattle.protobuf_parse_rules.specs.Bodies.{imports_of, of_file, of_message, reserved_names}
+use Rattle.protobuf_parse_rules.specs.Bodies.{services_of}
 use Rattle.protobuf_parse_rules.specs.Positions.{by_position}
 use Rattle.protobuf_parse_rules.specs.Proto3.{default_field, group_field, required_field}
 use Rattle.protobuf_parse_rules.specs.Ranges.{kept_number, reserved_name, reserved_number}
@@ -147,9 +150,9 @@ none_unused all site (of_file f) h =
 
 -- ---- bodies
 
--- what is told of a body, by what is told of its fields, its extensions and its imports
-abbrev told_inside : BodyParts → (fields extensions imports : List Breach) → List Breach
-told_inside p fields extensions imports =
+-- what is told of a body, by what is told of its fields, its extensions, its imports and its methods
+abbrev told_inside : BodyParts → (fields extensions imports methods : List Breach) → List Breach
+told_inside p fields extensions imports methods =
     (json_names_in_use p ++ fields_alike p)
     ++ (fields
     ++ (extensions
@@ -157,7 +160,8 @@ told_inside p fields extensions imports =
     ++ (empty_oneofs p
     ++ ((repeats rule.ImportedTwice (site_of_body p) (imports_of p.content) ++ imports)
     ++ (repeats rule.NameReservedTwice (site_of_body p) (reserved_names p.content)
-    ++ range_breaches p))))
+    ++ (range_breaches p
+    ++ (deep_messages p ++ methods))))))
     ++ flat_map (enum_breaches p) (enums_of p.content))))
 
 body_alone : (all : List BodyParts) (p : BodyParts) → asks p ≡ false
@@ -165,22 +169,32 @@ body_alone : (all : List BodyParts) (p : BodyParts) → asks p ≡ false
 body_alone all p h =
     let fields = fields_of p.content in
     let extensions = extensions_of p.content in
-    let others = left (are_any (imports_of p.content) || are_any extensions)
+    let services = services_of p.content in
+    let others = left (are_any (imports_of p.content) || (are_any extensions || are_any services))
     (list_any (field_asks p.proto3 p.content) fields) h in
-    let none = any_nil extensions (right (are_any (imports_of p.content))
-    (are_any extensions) others) in
-    let imports = left (are_any (imports_of p.content)) (are_any extensions) others in
+    let declared = right (are_any (imports_of p.content)) (are_any extensions || are_any services)
+    others in
+    let none = any_nil extensions (left (are_any extensions) (are_any services) declared) in
+    let no_service = any_nil services (right (are_any extensions) (are_any services) declared) in
+    let imports = left (are_any (imports_of p.content)) (are_any extensions || are_any services)
+    others in
     ap (λ bs. told_inside p bs (flat_map (extension_breaches [] p) extensions)
-    (unused_imports [] p))
-    (fields_alone all p fields (right (are_any (imports_of p.content) || are_any extensions)
+    (unused_imports [] p) (methods_breaches [] p))
+    (fields_alone all p fields (right
+    (are_any (imports_of p.content) || (are_any extensions || are_any services))
     (list_any (field_asks p.proto3 p.content) fields) h))
-    ∙ ap (λ bs. told_inside p (flat_map (field_breaches all p) fields) bs (unused_imports [] p))
+    ∙ ap (λ bs. told_inside p (flat_map (field_breaches all p) fields) bs (unused_imports [] p)
+    (methods_breaches [] p))
     (ap (flat_map (extension_breaches [] p)) none
     ∙ sym (ap (flat_map (extension_breaches all p)) none))
     ∙ ap (λ bs. told_inside p (flat_map (field_breaches all p) fields)
-    (flat_map (extension_breaches all p) extensions) bs)
+    (flat_map (extension_breaches all p) extensions) bs (methods_breaches [] p))
     (none_unused [] (site_of_body p) p.content imports
     ∙ sym (none_unused all (site_of_body p) p.content imports))
+    ∙ ap (λ bs. told_inside p (flat_map (field_breaches all p) fields)
+    (flat_map (extension_breaches all p) extensions) (unused_imports all p) bs)
+    (ap (flat_map (service_breaches [] p.file p.scope)) no_service
+    ∙ sym (ap (flat_map (service_breaches all p.file p.scope)) no_service))
 
 -- Where no body asks, what is told is what would be if there were no others.
 pub told_alone : (all : List BodyParts) (before : List Claim) (ps : List BodyParts)

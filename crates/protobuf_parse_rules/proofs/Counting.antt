@@ -4,7 +4,7 @@ use Rattle.std.proofs.Common.{[], ◌∷◌}
 use Rattle.std.proofs.Common.{◌++◌, refl, sym, ap, ◌∙◌, subst, append-nil, append_assoc, arith}
 use Rattle.std.proofs.Common.{Option}
 use Rattle.std.proofs.Common.{Some, None}
-use Rattle.std.specs.Prelude.{filter}
+use Rattle.std.specs.Prelude.{filter, bytes_eq, if◌then◌else◌}
 use Rattle.std.specs.List.{flat_map, list_any}
 use Rattle.std.specs.Ordering.{int_eq}
 use Rattle.std.proofs.lemmas.Bool.Decides.{Decides-int_eq}
@@ -16,7 +16,8 @@ use Rattle.protobuf_parse_rules.specs.Claims.{same_thing}
 use Rattle.protobuf_parse_rules.specs.Law.{is_number_in_use}
 use Rattle.protobuf_parse_rules.specs.Numbers.{claims, number_rule}
 use Rattle.protobuf_parse_rules.specs.Bodies.{BodyParts}
-use Rattle.protobuf_parse_rules.specs.Rules.{Breach}
+use Rattle.protobuf_parse_rules.specs.Rules.{Breach, breaches_at}
+use Rattle.protobuf_parse_rules.specs.declared.rule.Rule.TheVariants as rule
 use Rattle.protobuf_parse_rules.specs.Violations.{breaches_after, breaches_of_body}
 use Rattle.protobuf_parse_rules.proofs.Claiming.{thing_is}
 
@@ -93,7 +94,19 @@ none_right xs ys e = nil_right _ _ (sym (filter-append told xs ys) ∙ e)
 none_in_use : (c : Claim) (first : Option Claim)
     → filter told (conflict number_rule c first) ≡ [] → first ≡ None
 none_in_use c None e = refl
-none_in_use c (Some x) e = absurd cc
+none_in_use c (Some x) e = in_use (bytes_eq c.who.file x.who.file) e
+  where
+    in_use : (here : Bool) → filter told (breaches_at (record {
+      file = c.who.file;
+      construct = c.who.name;
+    }) (Some (record {
+      rule = if here then rule.NumberInUse c.thing.number
+          else rule.NumberInUseElsewhere c.thing.number;
+      name = Some c.thing.name;
+      by = Some x.who.name;
+    }) ∷ [])) ≡ [] → Some x ≡ None
+    in_use true none = absurd cc
+    in_use false none = absurd cc
 
 few_claims : (before cs : List Claim)
     → filter told (conflicts number_rule before cs) ≡ []

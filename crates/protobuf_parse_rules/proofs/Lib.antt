@@ -2,6 +2,7 @@ pub mod Lists
 pub mod Marking
 pub mod Linking
 pub mod Placing
+pub mod Nested
 pub mod Claiming
 pub mod Keying
 pub mod Naming

@@ -7,6 +7,7 @@ use Rattle.protobuf_parse_rules.specs.declared.rule.Rule.TheVariants as rule
 -- the code by which a rule is told
 abbrev pub code_of : Rule → Text
 code_of (rule.NumberInUse number) = codes "C1"
+code_of (rule.NumberInUseElsewhere number) = codes "C1"
 code_of (rule.NumberNotPositive number) = codes "C2"
 code_of (rule.NumberTooLarge number) = codes "C3"
 code_of (rule.NumberOfImplementation number) = codes "C4"
@@ -58,9 +59,13 @@ code_of rule.LiteImport = codes "C49"
 code_of rule.LiteExtension = codes "C50"
 code_of rule.LiteService = codes "C51"
 code_of rule.ValueNamesAlikeProto2 = codes "C52"
+code_of rule.MethodTypeNotMessage = codes "C53"
+code_of rule.ExtendeeNotMessage = codes "C54"
+code_of rule.NestedTooDeep = codes "C55"
 
 -- protoc warns of these and goes on; of all else it makes an error
 abbrev pub is_warning : Rule → Bool
+is_warning (rule.NumberInUseElsewhere number) = true
 is_warning rule.JsonNameInUseProto2 = true
 is_warning rule.ImportUnused = true
 is_warning rule.ValueNamesAlikeProto2 = true

@@ -5,13 +5,14 @@ use Rattle.std.specs.Prelude.{ℤ, Bool, true, false, not, ◌&&◌, if◌then�
 use Rattle.std.specs.Prelude.{None, option_and_then}
 use Rattle.protobuf_parse_syntax.specs.declared.tree.field.Label.{Label}
 use Rattle.protobuf_parse_syntax.specs.declared.tree.field.Label.TheVariants as label
-use Rattle.protobuf_parse_model.specs.Descriptors.{FieldDescriptor}
+use Rattle.protobuf_parse_model.specs.Descriptors.{FieldDescriptor, Text}
 use Rattle.protobuf_parse_rules.specs.FieldOptions.{is_message}
 use Rattle.protobuf_parse_rules.specs.Lookups.{NamedMessage, message_named}
 use Rattle.protobuf_parse_rules.specs.MessageSets.{is_message_set}
-use Rattle.protobuf_parse_rules.specs.Bodies.{BodyParts, extension_ranges}
+use Rattle.protobuf_parse_rules.specs.Methods.{is_enum_alone}
+use Rattle.protobuf_parse_rules.specs.Bodies.{BodyParts}
 use Rattle.protobuf_parse_rules.specs.Proto3.{is_required}
-use Rattle.protobuf_parse_rules.specs.Ranges.{in_ranges}
+use Rattle.protobuf_parse_rules.specs.Ranges.{in_ranges, ranges_for_extensions}
 use Rattle.protobuf_parse_rules.specs.Rules.{Broken, broken_by, broken_if}
 use Rattle.protobuf_parse_rules.specs.declared.rule.Rule.TheVariants as rule
 
@@ -35,8 +36,14 @@ of_extendee all r e = option_and_then r (extendee_of all e)
 
 -- C32 for a number outside of the ranges of the message
 abbrev pub outside_ranges : ℤ → NamedMessage → Option Broken
-outside_ranges n m = if in_ranges n (extension_ranges m.what) then None
+outside_ranges n m = if in_ranges n (ranges_for_extensions m.what) then None
     else Some (broken_by (rule.NumberNotForExtensions n) m.name)
+
+-- C54 for an extension of an enum
+abbrev pub of_enum_extended : List BodyParts → FieldDescriptor → Option Broken
+of_enum_extended all e = option_and_then (λ (name : Text).
+    if is_enum_alone all name then Some (broken_by rule.ExtendeeNotMessage name) else None)
+    e.extendee
 
 -- C33 for any other than an optional message, where the message is a message set
 abbrev pub of_message_set : FieldDescriptor → NamedMessage → Option Broken

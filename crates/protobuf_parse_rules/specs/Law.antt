@@ -14,6 +14,7 @@ use Rattle.protobuf_parse_rules.specs.Violations.{breaches}
 -- whether a rule is C1
 abbrev pub is_number_in_use : Rule → Bool
 is_number_in_use (rule.NumberInUse n) = true
+is_number_in_use (rule.NumberInUseElsewhere n) = true
 is_number_in_use _ = false
 
 -- none of these is C1

@@ -25,6 +25,8 @@ pub mod Sets
 pub mod Lookups
 pub mod Customs
 pub mod Imports
+pub mod Methods
+pub mod Nesting
 pub mod Extensions
 pub mod EnumUses
 pub mod Held

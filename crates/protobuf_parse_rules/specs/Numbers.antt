@@ -2,6 +2,7 @@
 -- whichever files these stand. Protocol Buffers Language Guide (proto2), "Assigning Field Numbers",
 -- "Extensions" (https://protobuf.dev).
 use Rattle.std.specs.Prelude.{List, [], ◌++◌, map, flat_map, option_to_list, None, Some}
+use Rattle.std.specs.Prelude.{bytes_eq, if◌then◌else◌}
 use Rattle.protobuf_parse_model.specs.Descriptors.{Text, FieldDescriptor}
 use Rattle.protobuf_parse_wire.specs.Declarations.{name_within}
 use Rattle.protobuf_parse_rules.specs.Bodies.{BodyParts, fields_of, extensions_of}
@@ -33,10 +34,11 @@ abbrev pub claims : BodyParts → List Claim
 claims p = field_claims p.file p.scope (fields_of p.content)
     ++ extension_claims p.file p.scope (extensions_of p.content)
 
--- C1: the number of that message is another one's
+-- C1: the number of that message is another one's, in the same file or in another one
 abbrev pub number_rule : Rules
 number_rule c other = Some (record {
-  rule = rule.NumberInUse c.thing.number;
+  rule = if bytes_eq c.who.file other.file then rule.NumberInUse c.thing.number
+      else rule.NumberInUseElsewhere c.thing.number;
   name = Some c.thing.name;
   by = Some other.name;
 })

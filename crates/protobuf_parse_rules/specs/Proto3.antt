@@ -61,7 +61,8 @@ is_of_options name =
     || (bytes_eq name (codes ".google.protobuf.EnumOptions")
     || (bytes_eq name (codes ".google.protobuf.EnumValueOptions")
     || (bytes_eq name (codes ".google.protobuf.ServiceOptions")
-    || bytes_eq name (codes ".google.protobuf.MethodOptions")))))))
+    || (bytes_eq name (codes ".google.protobuf.MethodOptions")
+    || bytes_eq name (codes ".google.protobuf.ExtensionRangeOptions"))))))))
 
 -- C15 for an extension of any other message than those of options
 abbrev pub extended : (proto3 : Bool) → (extendee : Option Text) → Option Broken

@@ -3,11 +3,13 @@
 -- "Extensions" (https://protobuf.dev). A range of a message ends before its `end`, one of an enum
 -- at it.
 use Rattle.std.specs.Prelude.{ℤ, pos, Bool, not, ◌&&◌, Option, int_lt, nat_lt, bytes_eq, List, []}
-use Rattle.std.specs.Prelude.{◌∷◌, ◌++◌}
+use Rattle.std.specs.Prelude.{◌∷◌, ◌++◌, map, if◌then◌else◌}
 use Rattle.std.specs.List.{count_by, list_any}
+use Rattle.std.specs.Ordering.{int_eq}
 use Rattle.protobuf_parse_model.specs.Descriptors.{Text, Range}
 use Rattle.protobuf_parse_rules.specs.Bodies.{Content, extension_ranges, reserved_names}
 use Rattle.protobuf_parse_rules.specs.Bodies.{reserved_ranges}
+use Rattle.protobuf_parse_rules.specs.MessageSets.{is_message_set}
 use Rattle.protobuf_parse_rules.specs.Rules.{Breach, Broken, Site, breaches_at, broken_if}
 use Rattle.protobuf_parse_rules.specs.declared.rule.Rule.TheVariants as rule
 
@@ -49,6 +51,18 @@ without_numbers start end = broken_if (not (int_lt start end)) (rule.RangeEmpty 
 abbrev pub too_large : (message_set : Bool) → (end : ℤ) → Option Broken
 too_large message_set end =
     broken_if (not message_set && int_lt (pos 536870912) end) (rule.ExtensionRangeTooLarge end)
+
+-- a range as a message set has it: one to `max`, whose `end` is 536870912 in a descriptor, goes on
+-- to the greatest number that there is
+abbrev pub range_of_set : Range → Range
+range_of_set r = if int_eq r.end (pos 536870912)
+    then record { start = r.start; end = pos 2147483647 } else r
+
+-- the ranges in which the numbers of a message's extensions lie
+abbrev pub ranges_for_extensions : Content → List Range
+ranges_for_extensions content =
+    if is_message_set content then map range_of_set (extension_ranges content)
+    else extension_ranges content
 
 -- all ranges of a message
 abbrev pub ranges_of : Content → List Range

@@ -14,7 +14,7 @@ use Rattle.protobuf_parse_rules.specs.Claims.{Claim, conflicts}
 use Rattle.protobuf_parse_rules.specs.Enums.{enum_breaches}
 use Rattle.protobuf_parse_rules.specs.EnumUses.{default_value, enum_of_proto2, map_value, of_enum}
 use Rattle.protobuf_parse_rules.specs.Extensions.{of_extendee, of_message_set, outside_ranges}
-use Rattle.protobuf_parse_rules.specs.Extensions.{required_extension}
+use Rattle.protobuf_parse_rules.specs.Extensions.{of_enum_extended, required_extension}
 use Rattle.protobuf_parse_rules.specs.FieldOptions.{js_type_option, lazy_option, option_of}
 use Rattle.protobuf_parse_rules.specs.FieldOptions.{packed_option}
 use Rattle.protobuf_parse_rules.specs.Imports.{unused_imports}
@@ -22,7 +22,9 @@ use Rattle.protobuf_parse_rules.specs.JsonNames.{json_names_in_use}
 use Rattle.protobuf_parse_rules.specs.Limits.{limit}
 use Rattle.protobuf_parse_rules.specs.Maps.{key_type}
 use Rattle.protobuf_parse_rules.specs.MessageSets.{field_of_set, is_message_set}
+use Rattle.protobuf_parse_rules.specs.Methods.{methods_breaches}
 use Rattle.protobuf_parse_rules.specs.Names.{names_in_use}
+use Rattle.protobuf_parse_rules.specs.Nesting.{deep_messages}
 use Rattle.protobuf_parse_rules.specs.Numbers.{claims, number_rule}
 use Rattle.protobuf_parse_rules.specs.Oneofs.{empty_oneofs}
 use Rattle.protobuf_parse_rules.specs.Proto3.{default_field, extended, group_field, ranges_kept}
@@ -73,6 +75,7 @@ extension_rules all proto3 e =
     limit true e.number
     ∷ required_extension e.label
     ∷ extended proto3 e.extendee
+    ∷ of_enum_extended all e
     ∷ of_extendee all (outside_ranges e.number) e
     ∷ of_extendee all (of_message_set e) e
     ∷ []
@@ -110,7 +113,8 @@ own_breaches all p =
     ++ (empty_oneofs p
     ++ (imports_breaches all p
     ++ (repeats rule.NameReservedTwice (site_of_body p) (reserved_names p.content)
-    ++ range_breaches p)))
+    ++ (range_breaches p
+    ++ (deep_messages p ++ methods_breaches all p)))))
 
 -- of all else that stands in a body
 abbrev pub breaches_in_rest : List BodyParts → BodyParts → List Breach

@@ -1,5 +1,5 @@
 //! Whether what is wrong in a body depends on others: on an enum of a field, on a message that is
-//! extended, or on a file that is imported. Where it never does, no tables are made: that spared 40
+//! extended, on a file that is imported, or on what a method takes and gives. Where it never does, no tables are made: that spared 40
 //! million instructions for 3,000 messages of all kinds.
 
 ghost use Rattle.std.specs.Prelude.{◌≡◌, map};
@@ -8,6 +8,7 @@ ghost use Rattle.protobuf_parse_model.specs.Descriptors.{field_view};
 ghost use Rattle.protobuf_parse_rules.specs.Asking as spec;
 ghost use Rattle.protobuf_parse_rules.specs.Customs.{are_any};
 ghost use Rattle.protobuf_parse_rules.specs.Bodies.{body_view, content_view, imports_of};
+ghost use Rattle.protobuf_parse_rules.specs.Bodies.{services_of};
 
 use crate::bodies::{Body, Holds};
 use crate::enum_uses::is_enum;
@@ -33,7 +34,18 @@ fn asks(body: &Body<'_>) -> bool
 {
     imports_any(body.holds)
         || has_extensions(body.holds)
+        || has_services(body.holds)
         || any_field_asks(body.proto3, body.holds, body.holds.fields())
+}
+
+#[tactic(auto, using(crate::proofs::Lists::any_mapped))]
+fn has_services(holds: Holds<'_>) -> bool
+    ensures { result ≡ are_any (services_of (content_view holds.entry)) }
+{
+    match holds {
+        Holds::Message(_) => false,
+        Holds::File(file) => !file.service.is_empty(),
+    }
 }
 
 #[tactic(auto, using(crate::proofs::Lists::any_mapped))]

@@ -9,6 +9,7 @@ ghost use Rattle.protobuf_parse_rules.specs.ClaimsKept.{holder_view, thing_view}
 ghost use Rattle.protobuf_parse_rules.specs.Findings.{finding_view, site_of};
 ghost use Rattle.protobuf_parse_rules.specs.Held.{rules_of};
 ghost use Rattle.protobuf_parse_rules.specs.Names.{name_rule};
+ghost use Rattle.protobuf_parse_rules.specs.Numbers.{number_rule};
 
 use crate::finding::{Finding, Spot, found_by};
 use crate::kind::NamedKind;
@@ -145,7 +146,7 @@ fn taken<'a>(held: Held, thing: Thing<'a>, by: Holder<'a>, first: Holder<'a>) ->
 {
     let number = thing.number;
     let (rule, name, by) = match held {
-        Held::Number => (Rule::NumberInUse { number }, Some(thing.name), Some(first)),
+        Held::Number => return number_taken(thing, by, first),
         Held::Value => (Rule::ValueInUse { number }, None, Some(first)),
         Held::JsonName(true) => (Rule::JsonNameInUse, Some(thing.name), Some(first)),
         Held::JsonName(false) => (Rule::JsonNameInUseProto2, Some(thing.name), Some(first)),
@@ -155,6 +156,25 @@ fn taken<'a>(held: Held, thing: Thing<'a>, by: Holder<'a>, first: Holder<'a>) ->
         Held::ValueAlike(proto3) => return value_alike(proto3, by, first),
     };
     Some(Finding { rule, name, by })
+}
+
+/// What is broken where something else has the number.
+fn number_taken<'a>(thing: Thing<'a>, by: Holder<'a>, first: Holder<'a>) -> Option<Finding<'a>>
+    ensures { option_map finding_view result
+        ≡ number_rule (record { thing = thing_view thing.entry; who = holder_view by.entry })
+        (holder_view first.entry) }
+{
+    let number = thing.number;
+    let rule = if by.file == first.file {
+        Rule::NumberInUse { number }
+    } else {
+        Rule::NumberInUseElsewhere { number }
+    };
+    Some(Finding {
+        rule,
+        name: Some(thing.name),
+        by: Some(first),
+    })
 }
 
 /// What is broken where another value has the name.

@@ -1,12 +1,15 @@
 //! Extensions.
 
 ghost use Rattle.std.specs.Borrow.{Bor};
-ghost use Rattle.std.specs.Prelude.{◌≡◌, List, option_map};
+ghost use Rattle.std.specs.Prelude.{◌≡◌, List, option_map, if◌then◌else◌, Some, None};
 ghost use Rattle.protobuf_parse_model.specs.Descriptors.{field_view};
 ghost use Rattle.protobuf_parse_rules.specs.Extensions as spec;
 ghost use Rattle.protobuf_parse_rules.specs.Findings.{finding_view};
 ghost use Rattle.protobuf_parse_rules.specs.Known.{known_message};
 ghost use Rattle.protobuf_parse_rules.specs.KnownTables.{Knows};
+ghost use Rattle.protobuf_parse_rules.specs.Methods.{is_enum_alone};
+ghost use Rattle.protobuf_parse_rules.specs.Rules.{broken_by};
+ghost use Rattle.protobuf_parse_rules.specs.declared.rule.Rule.TheVariants as rule;
 ghost use Rattle.protobuf_parse_rules.specs.declared.known.KnownMessage.{KnownMessage};
 ghost use Rattle.protobuf_parse_rules.specs.Bodies.{BodyParts};
 
@@ -14,6 +17,7 @@ use crate::field_options::is_message;
 use crate::finding::{Finding, found_by, found_if};
 use crate::known::KnownMessage;
 use crate::message_sets::is_message_set;
+use crate::methods::is_enum_alone;
 use crate::proto3::is_required;
 use crate::rule::Rule;
 use crate::tables::Tables;
@@ -67,6 +71,32 @@ fn outside<'a>(message: &KnownMessage<'a>, number: &i32) -> Option<Finding<'a>>
             Rule::NumberNotForExtensions { number: *number },
             message.name,
         )
+    }
+}
+
+/// It extends an enum.
+pub fn of_enum_extended<'a>(
+    tables: &Tables<'a>,
+    extension: &'a FieldDescriptorProto,
+) -> Option<Finding<'a>>
+    ensures { (all : List BodyParts) → Knows tables.now all → option_map finding_view result
+        ≡ spec.of_enum_extended all (field_view extension.now) }
+{
+    match &extension.extendee {
+        Some(name) => enum_extended(tables, name),
+        None => None,
+    }
+}
+
+fn enum_extended<'a>(tables: &Tables<'a>, name: &'a str) -> Option<Finding<'a>>
+    ensures { (all : List BodyParts) → Knows tables.now all → option_map finding_view result
+        ≡ (if is_enum_alone all name.now
+        then Some (broken_by rule.ExtendeeNotMessage name.now) else None) }
+{
+    if is_enum_alone(tables, name) {
+        found_by(Rule::ExtendeeNotMessage, name)
+    } else {
+        None
     }
 }
 

@@ -13,7 +13,7 @@ use crate::bars::Bars;
 use crate::bodies::Body;
 use crate::defaults::default_of;
 use crate::enum_uses::{default_value, enum_of_proto2, map_value};
-use crate::extensions::{of_message_set, outside_ranges, required_extension};
+use crate::extensions::{of_enum_extended, of_message_set, outside_ranges, required_extension};
 use crate::field_options::{js_type_option, lazy_option, packed_option};
 use crate::limits::limit;
 use crate::maps::key_type;
@@ -182,6 +182,7 @@ fn check_as_extension<'a>(
         limit(extension.number, true),
         required_extension(extension.label),
         extended(body.proto3, &extension.extendee),
+        of_enum_extended(tables, extension),
         outside_ranges(tables, extension),
         of_message_set(tables, extension),
     ];

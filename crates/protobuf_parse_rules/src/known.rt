@@ -6,13 +6,13 @@ ghost use Rattle.protobuf_parse_model.specs.Descriptors.{EnumValueDescriptor, en
 ghost use Rattle.protobuf_parse_model.specs.Descriptors.{enum_view};
 ghost use Rattle.protobuf_parse_rules.specs.Covers.{AreEnds};
 ghost use Rattle.protobuf_parse_rules.specs.EnumUses.{value_names};
-ghost use Rattle.protobuf_parse_rules.specs.Bodies.{content_view, extension_ranges};
-ghost use Rattle.protobuf_parse_rules.specs.Ranges.{in_range, in_ranges};
+ghost use Rattle.protobuf_parse_rules.specs.Bodies.{content_view};
+ghost use Rattle.protobuf_parse_rules.specs.Ranges.{in_range, in_ranges, ranges_for_extensions};
 ghost use Rattle.protobuf_parse_rules.specs.Sets.{AreTexts};
 
 use crate::bodies::Holds;
 use crate::cover::Cover;
-use crate::ranges::kept_cover;
+use crate::ranges::extension_cover;
 use crate::words::Words;
 use protobuf_parse_model::{EnumDescriptorProto, EnumValueDescriptorProto};
 use std::alloc::{AllocError, Global};
@@ -24,14 +24,15 @@ pub struct KnownMessage<'a> {
     pub name: &'a str,
     pub holds: Holds<'a>,
     pub kept: Cover,
-    pub ghost are_kept: { AreEnds in_range (extension_ranges (content_view holds)) kept.firsts.items
-        kept.lasts.items } by { Prim.hlevel props },
+    pub ghost are_kept: { AreEnds in_range (ranges_for_extensions (content_view holds))
+        kept.firsts.items kept.lasts.items } by { Prim.hlevel props },
 }
 
 impl KnownMessage<'_> {
     /// Whether the message keeps the number for extensions.
     pub fn keeps(&self, number: &i32) -> bool
-        ensures { result ≡ in_ranges number.now (extension_ranges (content_view self.now.holds)) }
+        ensures { result
+            ≡ in_ranges number.now (ranges_for_extensions (content_view self.now.holds)) }
     {
         self.kept.has(number)
     }
@@ -60,7 +61,7 @@ pub fn message_with<'a>(
     ensures { IfOk result (λ m. (m.file.now ≡ file.now) × (m.name.now ≡ name.now)
         × (content_view m.holds ≡ content_view holds.entry)) }
 {
-    let kept = kept_cover(alloc, holds.extension_ranges())?;
+    let kept = extension_cover(alloc, holds)?;
     Ok(KnownMessage {
         file,
         name,

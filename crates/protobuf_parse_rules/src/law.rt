@@ -35,7 +35,10 @@ fn none_is_in_use(violations: &[Violation]) -> bool
 fn is_number_in_use(rule: Rule) -> bool
     ensures { result ≡ is_number_in_use rule }
 {
-    matches!(rule, Rule::NumberInUse { number: _ })
+    matches!(
+        rule,
+        Rule::NumberInUse { number: _ } | Rule::NumberInUseElsewhere { number: _ }
+    )
 }
 
 /// Laws of the definitions: files in which no number of a field or an extension is in use already

@@ -84,4 +84,5 @@ fn is_of_options(name: &str) -> bool
         || name == ".google.protobuf.EnumValueOptions"
         || name == ".google.protobuf.ServiceOptions"
         || name == ".google.protobuf.MethodOptions"
+        || name == ".google.protobuf.ExtensionRangeOptions"
 }

@@ -1,6 +1,6 @@
 //! Ranges of numbers, and names, that a message reserves or keeps for extensions.
 
-ghost use Rattle.std.specs.Prelude.{◌≡◌, ◌++◌, map, flat_map, nat_lt, option_map, IfOk, OnOk};
+ghost use Rattle.std.specs.Prelude.{◌≡◌, ◌++◌, map, flat_map, nat_lt, option_map, IfOk, OnOk, ℤ};
 ghost use Rattle.std.specs.List.{count_by};
 ghost use Rattle.protobuf_parse_model.specs.Descriptors.{extension_range_view};
 ghost use Rattle.protobuf_parse_model.specs.Descriptors.{reserved_range_view};
@@ -13,6 +13,7 @@ ghost use Rattle.protobuf_parse_rules.specs.Rules.{breaches_told};
 ghost use Rattle.protobuf_parse_rules.specs.Violations.{site_of_body};
 
 use crate::bars::Bars;
+use crate::bodies::Holds;
 use crate::cover::{Cover, add_open, no_ends};
 use crate::finding::{Finding, found_if};
 use crate::message_sets::is_message_set;
@@ -44,6 +45,40 @@ pub fn kept_cover(alloc: Global, ranges: &[ExtensionRange]) -> Result<Cover, All
         add_open(&mut ends, &range.start, &range.end)?;
     }
     Ok(Cover::of(ends))
+}
+
+/// The numbers that extensions of the message may have.
+pub fn extension_cover(alloc: Global, holds: Holds<'_>) -> Result<Cover, AllocError>
+    ensures { IfOk result (λ c. AreEnds spec.in_range
+        (spec.ranges_for_extensions (content_view holds.entry)) c.firsts.items c.lasts.items) }
+{
+    if is_message_set(holds) {
+        set_cover(alloc, holds.extension_ranges())
+    } else {
+        kept_cover(alloc, holds.extension_ranges())
+    }
+}
+
+/// The numbers of the ranges, as a message set has them.
+fn set_cover(alloc: Global, ranges: &[ExtensionRange]) -> Result<Cover, AllocError>
+    ensures { IfOk result (λ c. AreEnds spec.in_range
+        (map spec.range_of_set (map extension_range_view ranges.now))
+        c.firsts.items c.lasts.items) }
+{
+    let mut ends = no_ends(alloc);
+    'kept: for range in ranges {
+        let end = end_in_set(&range.end);
+        add_open(&mut ends, &range.start, &end)?;
+    }
+    Ok(Cover::of(ends))
+}
+
+/// Where a range of a message set ends.
+fn end_in_set(end: &i32) -> i32
+    ensures { (start : ℤ) → record { start = start; end = result }
+        ≡ spec.range_of_set (record { start = start; end = end.now }) }
+{
+    if *end == 536870912 { i32::MAX } else { *end }
 }
 
 /// The field's number is reserved in its message.

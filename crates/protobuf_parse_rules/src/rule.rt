@@ -10,9 +10,12 @@ use thiserror::Error;
 #[derive(Clone, Copy, Debug, PartialEq, Eq, Error)]
 pub enum Rule {
     /// C1: the number of a field or an extension is that of another one of the message, which
-    /// `name` is.
+    /// `name` is, and the first that has it stands in the same file.
     #[error("number {number} has already been used in the message")]
     NumberInUse { number: i32 },
+    /// C1: the same where the first that has it stands in another file, of which `protoc` warns.
+    #[error("number {number} has already been used in the message, in another file")]
+    NumberInUseElsewhere { number: i32 },
     /// C2: a number below 1.
     #[error("the number {number} is not positive")]
     NumberNotPositive { number: i32 },
@@ -170,6 +173,15 @@ pub enum Rule {
     /// C52: as C46, in proto2.
     #[error("another value has the name, but for case, underscores and the enum's name")]
     ValueNamesAlikeProto2,
+    /// C53: what a method takes or gives, `name`, is an enum.
+    #[error("what a method takes and gives must be messages, and this is an enum")]
+    MethodTypeNotMessage,
+    /// C54: what an extension extends, `name`, is an enum.
+    #[error("only messages can be extended, and this is an enum")]
+    ExtendeeNotMessage,
+    /// C55: a message is the 32nd of messages inside one another.
+    #[error("messages are nested 32 deep or more")]
+    NestedTooDeep,
 }
 
 impl Rule {
@@ -178,7 +190,7 @@ impl Rule {
         ensures { result.now ≡ code_of self.now }
     {
         match self {
-            Rule::NumberInUse { .. } => "C1",
+            Rule::NumberInUse { .. } | Rule::NumberInUseElsewhere { .. } => "C1",
             Rule::NumberNotPositive { .. } => "C2",
             Rule::NumberTooLarge { .. } => "C3",
             Rule::NumberOfImplementation { .. } => "C4",
@@ -230,6 +242,9 @@ impl Rule {
             Rule::LiteExtension => "C50",
             Rule::LiteService => "C51",
             Rule::ValueNamesAlikeProto2 => "C52",
+            Rule::MethodTypeNotMessage => "C53",
+            Rule::ExtendeeNotMessage => "C54",
+            Rule::NestedTooDeep => "C55",
         }
     }
 
@@ -239,7 +254,10 @@ impl Rule {
     {
         matches!(
             self,
-            Rule::JsonNameInUseProto2 | Rule::ImportUnused | Rule::ValueNamesAlikeProto2
+            Rule::NumberInUseElsewhere { .. }
+                | Rule::JsonNameInUseProto2
+                | Rule::ImportUnused
+                | Rule::ValueNamesAlikeProto2
         )
     }
 }

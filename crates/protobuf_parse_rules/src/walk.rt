@@ -7,7 +7,9 @@ ghost use Rattle.protobuf_parse_rules.specs.Enums.{enum_breaches};
 ghost use Rattle.protobuf_parse_rules.specs.JsonNames.{json_names_in_use};
 ghost use Rattle.protobuf_parse_rules.specs.KnownNames.{named_view};
 ghost use Rattle.protobuf_parse_rules.specs.KnownTables.{Knows};
+ghost use Rattle.protobuf_parse_rules.specs.Methods.{methods_breaches};
 ghost use Rattle.protobuf_parse_rules.specs.Names.{names_at, names_in_use};
+ghost use Rattle.protobuf_parse_rules.specs.Nesting.{deep_messages};
 ghost use Rattle.protobuf_parse_rules.specs.Bodies.{BodyParts, body_view, content_view};
 ghost use Rattle.protobuf_parse_rules.specs.Bodies.{imports_of, reserved_names};
 ghost use Rattle.protobuf_parse_rules.specs.Repeats.{repeats};
@@ -30,8 +32,10 @@ use crate::enums::check_enum;
 use crate::fields::{check_extensions, check_fields};
 use crate::imports::check_unused_imports;
 use crate::json_names::check_json_names;
+use crate::methods::check_methods;
 use crate::name_keys::names_are_apart;
 use crate::names::{Named, check_names, names_of};
+use crate::nesting::check_nesting;
 use crate::numbers::{check_numbers, numbers_are_apart};
 use crate::oneofs::check_oneofs;
 use crate::proto3::{ranges_kept, set_in_proto3};
@@ -265,7 +269,23 @@ fn check_own<'a>(
     check_oneofs(alloc, told, bars.body)?;
     check_imports(alloc, told, tables, bars.body)?;
     check_reserved_names(alloc, told, bars.body)?;
-    check_ranges(alloc, told, bars)
+    check_ranges(alloc, told, bars)?;
+    check_declarations(alloc, told, tables, bars.body)
+}
+
+/// Tells which of a file's messages are nested too deep, and what is wrong with its methods.
+fn check_declarations<'a>(
+    alloc: Global,
+    told: &mut Vec<Violation>,
+    tables: &Tables<'a>,
+    body: &'a Body<'a>,
+) -> Result<(), AllocError>
+    ensures { OnOk result ((all : List BodyParts) → Knows tables.now all →
+        breaches_told told.new ≡ breaches_told told.old
+        ++ (deep_messages (body_view body.now) ++ methods_breaches all (body_view body.now))) }
+{
+    check_nesting(alloc, told, body)?;
+    check_methods(alloc, told, tables, body)
 }
 
 fn check_imports<'a>(
