@@ -16,7 +16,7 @@ is_told_at level.Warn = true
 is_told_at level.Off = false
 
 -- the violations that are told at this level
-abbrev pub told_at_level : RuleLevel → List Violation → List Violation
+abbrev pub told_at_level : {V : Type 0} → RuleLevel → List V → List V
 told_at_level at violations = if is_told_at at then violations else []
 
 -- how bad it is that a rule is broken: of what protoc only warns there is a warning

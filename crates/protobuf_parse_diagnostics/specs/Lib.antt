@@ -3,3 +3,4 @@ pub mod Told
 pub mod Telling
 pub mod Broken
 pub mod Arranged
+pub mod Texts

@@ -6,17 +6,11 @@ use protobuf_parse_syntax::Place;
 use std::alloc::{AllocError, Global};
 use std::collections::BTreeMap;
 
-/// A declaration of a name.
-#[derive(Clone, Copy)]
-struct Site {
-    kind: DeclaredKind,
-    place: Place,
-}
-
-/// The places of the statements of a file that declare something, by full names.
+/// The places of the statements of a file that declare something, by what they declare and by full
+/// names.
 #[derive(Drop)]
 pub struct DeclarationPlaces {
-    sites: BTreeMap<String, Vec<Site>>,
+    places: BTreeMap<DeclaredKind, BTreeMap<String, Vec<Place>>>,
 }
 
 impl DeclarationPlaces {
@@ -33,43 +27,45 @@ impl DeclarationPlaces {
                 DeclarationPlaces::of_outline(alloc, &outline)
             }
             None => Ok(DeclarationPlaces {
-                sites: BTreeMap::new(alloc),
+                places: BTreeMap::new(alloc),
             }),
         }
     }
 
     /// Those that the outline of a file tells of.
     pub(crate) fn of_outline(alloc: Global, outline: &Outline<'_>) -> Result<Self, AllocError> {
-        let mut sites = BTreeMap::new(alloc);
+        let mut places = BTreeMap::new(alloc);
         for declared in &outline.declared {
-            add(alloc, &mut sites, declared)?;
+            add(alloc, &mut places, declared)?;
         }
-        Ok(DeclarationPlaces { sites })
+        Ok(DeclarationPlaces { places })
     }
 
     /// The place of the first statement that declares a construct of that kind with that full name,
     /// which has a dot at its head. A field that a group declares, and what stands behind a map,
     /// has the place of the group or the map; an enum's value stands beside its enum.
     pub fn place(&self, kind: DeclaredKind, full: &str) -> Option<Place> {
-        for site in self.sites.get(full)? {
-            if site.kind == kind {
-                return Some(site.place);
-            }
-        }
-        None
+        self.nth_place(kind, full, 0)
+    }
+
+    /// The same of the statement before which so many declare a construct of that kind with that
+    /// full name.
+    pub fn nth_place(&self, kind: DeclaredKind, full: &str, before: usize) -> Option<Place> {
+        self.places.get(&kind)?.get(full)?.get(before).copied()
     }
 }
 
 fn add(
     alloc: Global,
-    sites: &mut BTreeMap<String, Vec<Site>>,
+    places: &mut BTreeMap<DeclaredKind, BTreeMap<String, Vec<Place>>>,
     declared: &Declared<'_>,
 ) -> Result<(), AllocError> {
     let full = declared.full.clone()?;
-    let site = Site {
-        kind: declared.kind,
-        place: declared.place,
-    };
-    sites.entry(full)?.or_insert(Vec::new(alloc)).push(site)?;
+    places
+        .entry(declared.kind)?
+        .or_insert(BTreeMap::new(alloc))
+        .entry(full)?
+        .or_insert(Vec::new(alloc))
+        .push(declared.place)?;
     Ok(())
 }

@@ -29,8 +29,9 @@ impl fmt::Display for Severity {
 ///
 /// Displayed it is one line, as `shop/order.proto:12:3: error: "Oder" is not defined [E3]`. Without
 /// a place the two numbers are left out, and without a code the brackets. A help stands behind the
-/// message, after a semicolon. A control character in a text is displayed as its number, so that
-/// nothing breaks the line.
+/// message, after a semicolon. A control character in a text is displayed as its number, and so is
+/// one that shows nothing or turns the direction of a text, so that nothing breaks the line or makes
+/// it read as another.
 #[derive(Debug, PartialEq, Eq, Drop)]
 pub struct Diagnostic {
     /// The path by which people open the file.
@@ -78,12 +79,26 @@ fn write_on_line<W: fmt::Write>(f: &mut fmt::Formatter<W>, text: &str) -> fmt::R
 }
 
 fn write_character<W: fmt::Write>(f: &mut fmt::Formatter<W>, character: char) -> fmt::Result {
-    if character.is_control() {
+    if character.is_control() || is_unseen(character) {
         let number = u32::from(character);
         write!(f, "\\u{{{number:x}}}")
     } else {
         write!(f, "{character}")
     }
+}
+
+/// Whether the character shows nothing, or turns the direction of those behind it: a line with it
+/// reads as another one.
+fn is_unseen(character: char) -> bool {
+    matches!(
+        character,
+        '\u{ad}'
+            | '\u{61c}'
+            | '\u{200b}'..='\u{200f}'
+            | '\u{2028}'..='\u{202e}'
+            | '\u{2060}'..='\u{206f}'
+            | '\u{feff}'
+    )
 }
 
 /// Puts diagnostics in the order in which people read them, and keeps one of those that are equal:

@@ -3,7 +3,7 @@
 mod walk;
 
 use crate::outline::walk::walk_file;
-use protobuf_parse_syntax::{FieldNumberRange, FileTree, Place, Reserved, Type};
+use protobuf_parse_syntax::{FieldNumberRange, FileTree, Place, Type};
 use std::alloc::{AllocError, Global};
 
 /// What is declared.
@@ -56,11 +56,21 @@ pub struct Ranges<'a> {
     pub place: Place,
 }
 
-/// What a tree declares, and its ranges, in the order of its text.
+/// The names of a `reserved` statement.
+#[derive(Drop)]
+pub struct ReservedNames<'a> {
+    /// The full name of the message or the enum.
+    pub of: String,
+    pub names: &'a [String],
+    pub place: Place,
+}
+
+/// What a tree declares and reserves, and its ranges, in the order of its text.
 #[derive(Drop)]
 pub struct Outline<'a> {
     pub declared: Vec<Declared<'a>>,
     pub ranges: Vec<Ranges<'a>>,
+    pub reserved: Vec<ReservedNames<'a>>,
     /// The number of the next body.
     pub bodies: usize,
 }
@@ -71,17 +81,10 @@ impl<'a> Outline<'a> {
         let mut outline = Outline {
             declared: Vec::new(alloc),
             ranges: Vec::new(alloc),
+            reserved: Vec::new(alloc),
             bodies: 0,
         };
         walk_file(alloc, &mut outline, tree)?;
         Ok(outline)
-    }
-}
-
-/// The ranges of a `reserved` statement that has numbers.
-pub fn reserved_ranges(reserved: &Reserved) -> &[FieldNumberRange] {
-    match reserved {
-        Reserved::Ranges(ranges) => ranges,
-        Reserved::Names(_) => &[],
     }
 }

@@ -8,6 +8,7 @@ use crate::declared::DeclarationPlaces;
 use crate::diagnostic::{Diagnostic, Severity};
 use crate::outline::{DeclaredKind, Outline};
 use crate::ranges::RangePlaces;
+use crate::reserved::ReservedPlaces;
 use crate::sources::{NamedTree, Sources, tree_of};
 use crate::statements::StatementPlaces;
 use protobuf_parse_rules::{NamedKind, Rule, Violation};
@@ -64,7 +65,8 @@ pub fn rule_diagnostics_by_trees(
     }
 }
 
-fn is_told(level: RuleLevel) -> bool
+/// Whether anything is told at this level.
+pub fn is_told(level: RuleLevel) -> bool
     ensures { result ≡ is_told_at level }
 {
     match level {
@@ -87,9 +89,10 @@ fn tell_violations(
     let files = broken_files(alloc, trees, violations)?;
     let places = PlacesByFile::of(alloc, &files)?;
     let mut told = Vec::with_capacity(alloc, violations.len())?;
+    let mut met = NamesMet::new(alloc);
     for violation in violations {
         let origin = sources.origin_of(&violation.file);
-        let place = places.of_violation(violation);
+        let place = places.of_violation(violation, met.before(violation)?);
         told.push(diagnostic_of(alloc, origin, place, violation, level)?)?;
     }
     Ok(told)
@@ -165,11 +168,46 @@ impl<'o> PlacesByFile<'o> {
         Ok(PlacesByFile { files: places })
     }
 
-    /// The place of the statement that breaks the rule, where the tree of its file is at hand.
-    fn of_violation(&self, violation: &Violation) -> Option<Place> {
+    /// The place of the statement that breaks the rule, where the tree of its file is at hand. So
+    /// many before it are of the same name and kind.
+    fn of_violation(&self, violation: &Violation, before: usize) -> Option<Place> {
         self.files
             .get(violation.file.as_str())?
-            .of_violation(violation)
+            .of_violation(violation, before)
+    }
+}
+
+/// How often a name was told that is another one's: each time it is one more statement that declares
+/// it.
+#[derive(Drop)]
+struct NamesMet<'v> {
+    times: BTreeMap<(&'v str, DeclaredKind, &'v str), usize>,
+}
+
+impl<'v> NamesMet<'v> {
+    fn new(alloc: Global) -> Self {
+        NamesMet {
+            times: BTreeMap::new(alloc),
+        }
+    }
+
+    /// How many statements of the file declare the name, as what the violation is of, before the
+    /// one that the violation is of; 0 of violations of other rules. All that have a name are told
+    /// but the first, in the order of the file.
+    fn before(&mut self, violation: &'v Violation) -> Result<usize, AllocError> {
+        let Rule::NameInUse { kind, first } = violation.rule else {
+            return Ok(0);
+        };
+        let Some(declared) = kinds_named(kind).first() else {
+            return Ok(0);
+        };
+        let file = violation.file.as_str();
+        let holds_first = kind == first && violation.name.as_deref() == Some(file);
+        let key = (file, *declared, violation.construct.as_str());
+        let times = self.times.entry(key)?.or_insert(usize::from(holds_first));
+        let before = *times;
+        *times = before.saturating_add(1);
+        Ok(before)
     }
 }
 
@@ -179,6 +217,8 @@ struct Places<'o> {
     statements: StatementPlaces<'o>,
     declared: DeclarationPlaces,
     ranges: RangePlaces<'o>,
+    reserved: ReservedPlaces<'o>,
+    first_values: BTreeMap<&'o str, Place>,
 }
 
 impl<'o> Places<'o> {
@@ -187,18 +227,20 @@ impl<'o> Places<'o> {
             statements: StatementPlaces::of(alloc, file.tree)?,
             declared: DeclarationPlaces::of_outline(alloc, &file.outline)?,
             ranges: RangePlaces::of(alloc, &file.outline)?,
+            reserved: ReservedPlaces::of(alloc, &file.outline)?,
+            first_values: first_values(alloc, &file.outline)?,
         })
     }
 
     /// The place of the statement that breaks the rule: of a range its own, and else the one that
-    /// declares what breaks it.
-    fn of_violation(&self, violation: &Violation) -> Option<Place> {
+    /// declares what breaks it, behind so many of the same name and kind.
+    fn of_violation(&self, violation: &Violation, before: usize) -> Option<Place> {
         let own = self.of_statement(violation);
         if own.is_some() {
             return own;
         }
         for kind in kinds_of(violation.rule) {
-            let place = self.declared.place(*kind, &violation.construct);
+            let place = self.declared.nth_place(*kind, &violation.construct, before);
             if place.is_some() {
                 return place;
             }
@@ -222,9 +264,33 @@ impl<'o> Places<'o> {
             Rule::RangesOverlap { start } => self.ranges.starting(construct, start),
             Rule::RangeEmpty { start } => self.ranges.empty(construct, start),
             Rule::ExtensionRangeTooLarge { end } => self.ranges.before(construct, end),
+            Rule::NameReservedTwice => { self.reserved.second(construct, violation.name.as_ref()?) }
+            Rule::FirstValueNotZero { .. } => self.first_values.get(construct).copied(),
             _ => None,
         }
     }
+}
+
+/// The places of the first values of enums, by the full names of these.
+fn first_values<'o>(
+    alloc: Global,
+    outline: &'o Outline<'_>,
+) -> Result<BTreeMap<&'o str, Place>, AllocError> {
+    let mut places = BTreeMap::new(alloc);
+    let mut begun: Option<&str> = None;
+    for declared in &outline.declared {
+        match declared.kind {
+            DeclaredKind::Enum => begun = Some(declared.full.as_str()),
+            DeclaredKind::EnumValue => {
+                if let Some(full) = begun {
+                    places.insert(full, declared.place)?;
+                }
+                begun = None;
+            }
+            _ => begun = None,
+        }
+    }
+    Ok(places)
 }
 
 /// What a rule is of.
@@ -236,6 +302,8 @@ fn kinds_of(rule: Rule) -> &'static [DeclaredKind] {
         ],
         Rule::OneofWithoutFields => &[DeclaredKind::Oneof],
         Rule::LiteService => &[DeclaredKind::Service],
+        Rule::MethodTypeNotMessage => &[DeclaredKind::Method],
+        Rule::NestedTooDeep => &[DeclaredKind::Message],
         Rule::FirstValueNotZero { .. }
         | Rule::EnumWithoutValues
         | Rule::AliasesForbidden
@@ -247,9 +315,10 @@ fn kinds_of(rule: Rule) -> &'static [DeclaredKind] {
         | Rule::ExtensionRangeTooLarge { .. }
         | Rule::RangesOverlap { .. }
         | Rule::NameReservedTwice => &[DeclaredKind::Message, DeclaredKind::Enum],
-        Rule::RequiredExtension | Rule::ExtensionInProto3 | Rule::LiteExtension => &[
-            DeclaredKind::Extension,
-        ],
+        Rule::RequiredExtension
+        | Rule::ExtensionInProto3
+        | Rule::ExtendeeNotMessage
+        | Rule::LiteExtension => &[DeclaredKind::Extension],
         Rule::NumberReserved { .. } | Rule::NameReserved => {
             &[DeclaredKind::Field, DeclaredKind::EnumValue]
         }

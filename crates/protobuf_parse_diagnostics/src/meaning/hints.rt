@@ -9,6 +9,9 @@ use protobuf_parse_syntax::{Place, Type};
 use std::alloc::{AllocError, Global};
 use std::collections::BTreeMap;
 
+/// How many places a sentence names.
+const MOST_SITES: usize = 10;
+
 /// What is told of names by themselves, each once made: many faults may speak of one name.
 #[derive(Drop)]
 pub struct Hints<'e> {
@@ -175,6 +178,7 @@ pub fn declared_twice(
     };
     let mut text = String::new(alloc);
     let mut is_told_here = false;
+    let mut sites: usize = 0;
     for found in &sight.reached_of(alloc, all)? {
         let Found { declared, file } = *found;
         if !is_spoken_of(declared, error) {
@@ -183,11 +187,18 @@ pub fn declared_twice(
         if file == sight.at && declared.place == error.place {
             is_told_here = true;
         } else if let Some(known) = sight.known.files.get(file) {
-            push_site(&mut text, known.source.origin, declared.place)?;
+            if sites < MOST_SITES {
+                push_site(&mut text, known.source.origin, declared.place)?;
+            }
+            sites = sites.saturating_add(1);
         }
     }
     if text.is_empty() {
         return Ok(None);
+    }
+    let more = sites.saturating_sub(MOST_SITES);
+    if more > 0 {
+        write!(text, " and {more} more")?;
     }
     if is_told_here {
         text.push_str(" too")?;

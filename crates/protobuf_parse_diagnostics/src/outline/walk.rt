@@ -1,11 +1,11 @@
 //! The walk over a tree.
 
-use crate::outline::{Declared, DeclaredKind, Outline, Ranges, reserved_ranges};
+use crate::outline::{Declared, DeclaredKind, Outline, Ranges, ReservedNames};
 use protobuf_parse_model::{entry_name, group_field_name};
 use protobuf_parse_syntax::{
     EnumStatement, Enumeration, Extend, Field, FieldNumberRange, FieldStatement, FileStatement,
-    FileTree, Group, Message, MessageStatement, Method, OneOf, OneOfStatement, Place, Service,
-    ServiceStatement, Type,
+    FileTree, Group, Message, MessageStatement, Method, OneOf, OneOfStatement, Place, Reserved,
+    ReservedStatement, Service, ServiceStatement, Type,
 };
 use protobuf_parse_wire::name_within;
 use std::alloc::{AllocError, Global};
@@ -102,6 +102,26 @@ fn note_ranges<'a>(
     Ok(())
 }
 
+fn note_reserved<'a>(
+    alloc: Global,
+    outline: &mut Outline<'a>,
+    scope: Scope<'_>,
+    statement: &'a ReservedStatement,
+) -> Result<(), AllocError> {
+    let place = statement.place;
+    match &statement.reserved {
+        Reserved::Ranges(ranges) => note_ranges(alloc, outline, scope, ranges, place),
+        Reserved::Names(names) => {
+            outline.reserved.push(ReservedNames {
+                of: String::from_str(alloc, scope.name)?,
+                names,
+                place,
+            })?;
+            Ok(())
+        }
+    }
+}
+
 #[cycle(messages)]
 fn walk_message<'a>(
     alloc: Global,
@@ -134,15 +154,7 @@ fn walk_message_statement<'a>(
     statement: &'a MessageStatement,
 ) -> Result<(), AllocError> {
     match statement {
-        MessageStatement::Reserved(it) => {
-            note_ranges(
-                alloc,
-                outline,
-                scope,
-                reserved_ranges(&it.reserved),
-                it.place,
-            )
-        }
+        MessageStatement::Reserved(it) => note_reserved(alloc, outline, scope, it),
         MessageStatement::OneOf(oneof) => walk_oneof(alloc, outline, scope, oneof),
         MessageStatement::Extend(extend) => walk_extend(alloc, outline, scope, extend),
         MessageStatement::Message(message) => walk_message(alloc, outline, scope, message),
@@ -296,13 +308,7 @@ fn walk_enum<'a>(
                     name: &name,
                     body: values.body,
                 };
-                note_ranges(
-                    alloc,
-                    outline,
-                    inside,
-                    reserved_ranges(&it.reserved),
-                    it.place,
-                )?;
+                note_reserved(alloc, outline, inside, it)?;
             }
             EnumStatement::Option(_) => {}
             EnumStatement::Value(value) => {
