@@ -1,1 +1,2 @@
 mod Sounding
+mod Texts

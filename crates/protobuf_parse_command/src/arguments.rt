@@ -18,9 +18,13 @@ pub struct Arguments {
     pub list: bool,
     pub imports: bool,
     pub rules: RuleLevel,
+    /// Whether rules are told of the files alone, and not of what they import.
+    pub rules_of_files: bool,
 }
 
 const LEVELS: [&str; 3] = ["error", "warn", "off"];
+
+const WHOSE_RULES: [&str; 2] = ["all", "files"];
 
 /// What these words say, without the program's own name. The error is what is told in their place:
 /// help and the version too.
@@ -85,7 +89,20 @@ fn with_flags<'a>(alloc: Global, command: Command<'a>) -> Result<Command<'a>, Al
         ))?
         .arg(flag(alloc, "list", "Lists the descriptors as text"))?
         .arg(imports_flag(alloc)?)?
-        .arg(rules)
+        .arg(rules)?
+        .arg(rules_of_argument(alloc))
+}
+
+fn rules_of_argument<'a>(alloc: Global) -> Arg<'a> {
+    Arg::new(alloc, "rules_of")
+        .long("rules_of")
+        .value_name("WHICH")
+        .action(ArgAction::Set)
+        .value_parser(ValueParser::Names(&WHOSE_RULES))
+        .default_value("all")
+        .help(
+            "Of which files violations of rules are told: all that are reached, or the files alone",
+        )
 }
 
 fn flag<'a>(alloc: Global, name: &'a str, help: &'a str) -> Arg<'a> {
@@ -120,6 +137,7 @@ fn read(alloc: Global, matches: &ArgMatches<'_>) -> Result<Arguments, AllocError
         list: matches.get_flag("list"),
         imports: matches.get_flag("imports"),
         rules: level_of(matches.get_str("rules").unwrap_or("error")),
+        rules_of_files: matches.get_str("rules_of") == Some("files"),
     })
 }
 

@@ -6,7 +6,7 @@ ghost use Rattle.protobuf_parse_command.specs.Checked.{IsChecked};
 use crate::arguments::Arguments;
 use crate::inputs::input_of;
 use crate::reading::Folders;
-use crate::rules::{RuleFiles, told_rules};
+use crate::rules::{RuleFiles, told_rules, told_texts};
 use crate::sound::{SoundFiles, sound_files};
 use protobuf_parse::{CheckLog, FileDescriptorProto, ProtoPathBuf, RunInput, google_files};
 use protobuf_parse_diagnostics::{Diagnostic, Reasons, Sources, arrange, check_diagnostics};
@@ -71,6 +71,7 @@ fn checked_of<W: Reasons>(
         inputs: &inputs,
     };
     told.append(&mut told_rules(alloc, arguments, &sources, &held)?)?;
+    told.append(&mut told_texts(alloc, arguments, &sources, &held)?)?;
     arrange(&mut told)?;
     Ok(Checked {
         told,

@@ -1,13 +1,14 @@
 //! Which violations of rules are told.
 
-ghost use Rattle.std.specs.Prelude.{IfOk};
-ghost use Rattle.protobuf_parse_command.specs.Checked.{AreRulesTold};
+ghost use Rattle.std.specs.Prelude.{IfOk, OnOk};
+ghost use Rattle.protobuf_parse_command.specs.Checked.{AreRulesTold, AreTextRulesTold};
 
 use crate::arguments::Arguments;
 use protobuf_parse::{FileDescriptorProto, NamedKind, ProtoPathBuf, Rule, Violation, violations};
 use protobuf_parse_diagnostics::{
-    Diagnostic, NamedTree, RuleLevel, Sources, rule_diagnostics_by_trees,
+    Diagnostic, NamedTree, RuleLevel, Sources, rule_diagnostics_by_trees, text_rule_diagnostics,
 };
+use protobuf_parse_text_rules::text_violations;
 use std::alloc::{AllocError, Global};
 use std::collections::{BTreeMap, BTreeSet};
 use std::slice;
@@ -22,8 +23,8 @@ pub struct RuleFiles<'a> {
     pub inputs: &'a [ProtoPathBuf],
 }
 
-/// What is told of rules: of those in the inputs, or with imports of all. The one error is that
-/// memory is short.
+/// What is told of rules in all files, or where that is asked for in the inputs alone. The one error
+/// is that memory is short.
 pub fn told_rules(
     alloc: Global,
     arguments: &Arguments,
@@ -51,14 +52,69 @@ fn told_violations(
     for file in held.files {
         all.append(&mut seconds.numbers_in(alloc, file)?)?;
     }
-    if !arguments.include_imports {
-        let mut inputs: BTreeSet<&str> = BTreeSet::new(alloc);
-        for name in held.inputs {
+    let inputs = held.paths_of_inputs(alloc)?;
+    all.retain(|violation| {
+        is_told_of(violation, arguments) || inputs.contains(violation.file.as_str())
+    });
+    Ok(all)
+}
+
+/// Whether a violation is told of files that are no inputs: an import that nothing needs is for who
+/// works on the file.
+fn is_told_of(violation: &Violation, arguments: &Arguments) -> bool {
+    !arguments.rules_of_files && !matches!(violation.rule, Rule::ImportUnused)
+}
+
+impl<'a> RuleFiles<'a> {
+    /// The proto paths of the inputs.
+    fn paths_of_inputs(&self, alloc: Global) -> Result<BTreeSet<&'a str>, AllocError> {
+        let mut inputs = BTreeSet::new(alloc);
+        for name in self.inputs {
             inputs.insert(name.as_path().to_str())?;
         }
-        all.retain(|violation| inputs.contains(violation.file.as_str()));
+        Ok(inputs)
     }
-    Ok(all)
+}
+
+/// What is told of the rules of texts in the same files. The one error is that memory is short.
+pub fn told_texts(
+    alloc: Global,
+    arguments: &Arguments,
+    sources: &Sources<'_>,
+    held: &RuleFiles<'_>,
+) -> Result<Vec<Diagnostic>, AllocError>
+    ensures { IfOk result (λ told. AreTextRulesTold arguments.now.rules told.items) }
+{
+    let mut told = Vec::new(alloc);
+    if matches!(arguments.rules, RuleLevel::Off) {
+        return Ok(told);
+    }
+    let inputs = held.paths_of_inputs(alloc)?;
+    for named in held.trees {
+        if !arguments.rules_of_files || inputs.contains(named.path.as_str()) {
+            tell_texts(alloc, &mut told, arguments, sources, named)?;
+        }
+    }
+    Ok(told)
+}
+
+/// Tells those of the file that has the tree.
+fn tell_texts(
+    alloc: Global,
+    told: &mut Vec<Diagnostic>,
+    arguments: &Arguments,
+    sources: &Sources<'_>,
+    named: &NamedTree,
+) -> Result<(), AllocError>
+    ensures { AreTextRulesTold arguments.now.rules told.old.items
+        → OnOk result (AreTextRulesTold arguments.now.rules told.new.items) }
+{
+    let Some(source) = sources.of_path(&named.path) else {
+        return Ok(());
+    };
+    let found = text_violations(alloc, source.text, &named.tree)?;
+    told.append(&mut text_rule_diagnostics(alloc, source.origin, &found, arguments.rules)?)?;
+    Ok(())
 }
 
 /// Messages whose full names are those of messages in other files before, by the paths of their own
@@ -88,7 +144,10 @@ impl Seconds {
 
     /// Whether the violation is that a number of such a message is in use.
     fn speak_of(&self, violation: &Violation) -> bool {
-        let (Rule::NumberInUse { .. }, Some(message)) = (violation.rule, &violation.name) else {
+        if !is_of_number(violation.rule) {
+            return false;
+        }
+        let Some(message) = &violation.name else {
             return false;
         };
         match self.messages.get(violation.file.as_str()) {
@@ -113,6 +172,14 @@ impl Seconds {
         found.retain(|violation| self.speak_of(violation));
         Ok(found)
     }
+}
+
+/// Whether it says that a number is in use.
+fn is_of_number(rule: Rule) -> bool {
+    matches!(
+        rule,
+        Rule::NumberInUse { .. } | Rule::NumberInUseElsewhere { .. }
+    )
 }
 
 /// Whether it says that a message of another file has the name.

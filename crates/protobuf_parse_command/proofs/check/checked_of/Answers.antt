@@ -8,8 +8,10 @@ pub returns : goal.returns
 returns g c =
     let faults = c.in_ok-check_diagnostics.field-0.items in
     let rules = c.in_ok-told_rules.field-0.items in
-    let added = c.in_ok-append-2.ensures.items
-    ∙ ap (λ (z : List Diagnostic). z ++ rules) c.in_ok-append.ensures.items in
+    let texts = c.in_ok-told_texts.field-0.items in
+    let added = c.in_ok-append-3.ensures.items
+    ∙ ap (λ (z : List Diagnostic). z ++ texts) (c.in_ok-append-2.ensures.items
+    ∙ ap (λ (z : List Diagnostic). z ++ rules) c.in_ok-append.ensures.items) in
     record {
       check = c.in_ok-check.check;
       done = c.in_ok-check.was;
@@ -18,6 +20,8 @@ returns g c =
       faults_told = c.in_ok-check_diagnostics.ensures;
       rules = rules;
       rules_told = c.in_ok-told_rules.ensures;
+      texts = texts;
+      texts_told = c.in_ok-told_texts.ensures;
       told = subst (λ (z : List Diagnostic). IsArranged _ z c.arrange.new.diagnostics.items) added
           c.in_ok-arrange.ensures;
       files = c.in_ok-files.ensures.files;
