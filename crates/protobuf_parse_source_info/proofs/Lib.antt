@@ -1,0 +1,10 @@
+pub mod Changes
+pub mod Steps
+pub mod Bodies
+pub mod Runs
+pub mod Options
+pub mod Types
+pub mod Counting
+pub mod Cutting
+pub mod Gathering
+pub mod Having

@@ -1,0 +1,10 @@
+use Rattle.protobuf_parse_source_info.specs.Parts.{reserved_names_walk}
+use Rattle.protobuf_parse_source_info.proofs.Steps.{takes_then, takes_leaf}
+use Rattle.protobuf_parse_source_info.proofs.walker.Walker.reserved_names.Goals as goal
+
+pub returns : goal.returns
+unfolding reserved_names_walk
+returns c =
+    takes_leaf _ c.in_ok-mark.ensures c.in_ok-at.ensures.at c.in_ok-at.ensures.opened
+    (takes_then (takes_then c.take.ensures c.in_ok-names.ensures) c.take-2.ensures)
+    c.head_ends.ensures c.close.ensures

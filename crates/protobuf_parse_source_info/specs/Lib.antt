@@ -1,0 +1,9 @@
+pub mod Spots
+pub mod Walks
+pub mod Parts
+pub mod Fields
+pub mod Declarations
+pub mod Files
+pub mod Info
+pub mod Views
+pub mod InnerViews
