@@ -16,6 +16,7 @@ pub use fault::{Fault, FaultKind, RecordsError};
 pub use laws::{groups_hold_records, offsets_count_on, records_are_joined, records_are_the_bytes};
 pub use span::Span;
 pub use split::{records, records_in};
+pub use values::varint as first_varint;
 pub use wire::{Payload, Record};
 
 #[cfg(test)]

@@ -1,0 +1,9 @@
+pub mod Varints
+pub mod Written
+pub mod Pieces
+pub mod Lines
+pub mod Said
+pub mod Options
+pub mod OptionMessages
+pub mod Messages
+pub mod Files

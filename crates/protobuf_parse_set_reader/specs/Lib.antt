@@ -1,0 +1,7 @@
+pub mod Answers
+pub mod Values
+pub mod Choices
+pub mod OptionReading
+pub mod TypeNames
+pub mod Bodies
+pub mod Reading
