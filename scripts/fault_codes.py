@@ -9,14 +9,14 @@ import re
 import sys
 from pathlib import Path
 
-CODE = re.compile(r"[SPELBC][0-9]+")
+CODE = re.compile(r"[SPELBCT][0-9]+")
 
 
 def codes_of_code():
     found = []
-    for crate in ("protobuf_parse_diagnostics", "protobuf_parse_rules"):
+    for crate in ("protobuf_parse_diagnostics", "protobuf_parse_rules", "protobuf_parse_text_rules"):
         for file in sorted((Path("crates") / crate / "src").rglob("*.rt")):
-            found += re.findall(r'=> "([SPELBC][0-9]+)"', file.read_text())
+            found += re.findall(r'=> "([SPELBCT][0-9]+)"', file.read_text())
     return found
 
 

@@ -7,13 +7,17 @@ use crate::files::Files;
 use anyhow::Result;
 use protobuf_parse::{CheckLog, FileReport, ProtoPathBuf, RunInput, bundled_files, check_inputs};
 use protobuf_parse_diagnostics::{
-    Diagnostic, NoReasons, RuleLevel, Sources, arrange, check_diagnostics, rule_diagnostics,
+    Diagnostic, NoReasons, RuleLevel, Source, Sources, arrange, check_diagnostics,
+    rule_diagnostics, text_rule_diagnostics,
 };
 use protobuf_parse_rules::violations;
+use protobuf_parse_syntax::parse_file;
+use protobuf_parse_text_rules::text_violations;
 use std::alloc::{AllocError, Global};
 
 /// What is told of the inputs behind the verb, with the files that the library brings: a line for
-/// each fault that a check finds; where it finds none, for each violation of a rule; or nothing. A
+/// each fault that a check finds; where it finds none, for each violation of a rule, those of texts
+/// too; or nothing. A
 /// row's text is the file `f.proto`, beside the files of the case, and is then the input.
 pub fn told(alloc: Global, case: &Case, row: &Row) -> Result<String> {
     let Some(content) = &row.given else {
@@ -62,6 +66,14 @@ fn told_of_rules(
     for report in reports {
         files.push(report.descriptor)?;
     }
+    let level = RuleLevel::Error;
     let found = violations(alloc, &files)?;
-    rule_diagnostics(alloc, sources, &found, RuleLevel::Error)
+    let mut told = rule_diagnostics(alloc, sources, &found, level)?;
+    for Source { origin, text, .. } in sources.files() {
+        if let Ok(tree) = parse_file(alloc, text) {
+            let found = text_violations(alloc, text, &tree)?;
+            told.append(&mut text_rule_diagnostics(alloc, origin, &found, level)?)?;
+        }
+    }
+    Ok(told)
 }

@@ -1,0 +1,141 @@
+#!/usr/bin/env python3
+"""Holds what the command tells of mistakes against what protoc says.
+
+    scripts/mistakes_beside_protoc.py [--program PROGRAM] [--one N] [--some N] [--behind N] [--seed S]
+        [--show KIND] [--most N]
+
+Makes N files with one mistake each (`--one`), N with two to five (`--some`) and N with one mistake
+in a file that is imported (`--behind`), of the kinds of scripts/mistaken.py, checks each with protoc
+and with the command, and prints for each kind how often the verdicts differ, how often protoc's
+first line is among ours, and how many of its lines are. Files and lines are compared, no texts.
+`--show KIND` prints the files of the kind where something differs, at most `--most`. The program is
+crates/protobuf_parse_cli/out/protobuf_parse_cli, as `rt run` builds it there.
+"""
+
+import argparse
+import os
+import re
+import subprocess
+import tempfile
+from collections import defaultdict
+from concurrent.futures import ProcessPoolExecutor
+from pathlib import Path
+
+import mistaken
+
+PROGRAM = Path("crates/protobuf_parse_cli/out/protobuf_parse_cli")
+LINE = re.compile(r"^(?P<file>[^:\n]*):(?:(?P<line>\d+):(?P<col>\d+):)? (?P<text>.*)$", re.M)
+# Lines that go with another one, or that only name files: a sum of what was said at the imported file.
+AFTER = re.compile(r"Note that enum values|had errors|not found or had|seems to be defined in|suggested field")
+SETS = {"one": mistaken.one, "some": mistaken.some, "behind": mistaken.behind}
+
+
+def told(text, folder):
+    """What is told as errors: files and lines, in order; and what is told as warnings."""
+    errors, warnings = [], []
+    for found in LINE.finditer(text.replace(f"{folder}/", "")):
+        at = (found["file"], found["line"])
+        if "warning" in found["text"][:12]:
+            warnings.append(at)
+        elif not AFTER.search(found["text"]):
+            errors.append(at)
+    return errors, warnings
+
+
+def run(words, folder):
+    return subprocess.run(words, capture_output=True, text=True, cwd=folder, errors="replace")
+
+
+def compare(given):
+    name, index, seed, program = given
+    kinds, files = SETS[name](index, seed)
+    if not kinds:
+        return None
+    with tempfile.TemporaryDirectory() as folder:
+        for path, text in files.items():
+            Path(folder, path).write_text(text)
+        theirs = run(["protoc", "-I.", "-I/usr/include", "-o", "/dev/null", "main.proto"], folder)
+        ours = run([program, "-I", ".", "main.proto"], folder)
+    return {
+        "kinds": kinds, "files": files, "index": index,
+        "theirs": theirs.returncode, "ours": ours.returncode,
+        "their_text": theirs.stderr, "our_text": ours.stderr,
+        "their_lines": told(theirs.stderr, folder)[0], "our_lines": told(ours.stderr, folder)[0],
+    }
+
+
+class Count:
+    def __init__(self):
+        self.files = self.verdicts = self.refused = self.first = self.lines = self.among = 0
+        self.accepted_here = self.refused_here = 0
+
+    def add(self, found):
+        self.files += 1
+        theirs, ours = found["theirs"] != 0, found["ours"] != 0
+        if theirs != ours:
+            self.verdicts += 1
+            if theirs:
+                self.accepted_here += 1
+            else:
+                self.refused_here += 1
+        lines = list(dict.fromkeys(found["their_lines"]))
+        if theirs and lines:
+            self.refused += 1
+            self.first += lines[0] in found["our_lines"]
+            self.lines += len(lines)
+            self.among += sum(line in found["our_lines"] for line in lines)
+
+    def row(self, name):
+        first = f"{self.first} of {self.refused}"
+        lines = f"{self.among} of {self.lines}"
+        return (f"{name:32} {self.files:6} {self.verdicts:5} ({self.accepted_here}/{self.refused_here})"
+                f" {first:>16} {lines:>16}")
+
+
+def differs(found):
+    theirs, ours = found["theirs"] != 0, found["ours"] != 0
+    lines = found["their_lines"]
+    return theirs != ours or (theirs and lines and lines[0] not in found["our_lines"])
+
+
+def main():
+    parser = argparse.ArgumentParser()
+    parser.add_argument("--program", type=Path, default=PROGRAM)
+    for name in SETS:
+        parser.add_argument(f"--{name}", type=int, default=0)
+    parser.add_argument("--seed", type=int, default=0)
+    parser.add_argument("--show", default=None)
+    parser.add_argument("--most", type=int, default=5)
+    given = parser.parse_args()
+    for name in SETS:
+        if getattr(given, name):
+            report(name, getattr(given, name), given)
+
+
+def report(name, many, given):
+    program = str(given.program.resolve())
+    work = [(name, i, given.seed, program) for i in range(many)]
+    whole, by_kind, shown = Count(), defaultdict(Count), 0
+    with ProcessPoolExecutor(os.cpu_count()) as pool:
+        for found in pool.map(compare, work, chunksize=32):
+            if found is None:
+                continue
+            whole.add(found)
+            for kind in set(found["kinds"]):
+                by_kind[kind].add(found)
+            if given.show in found["kinds"] and differs(found) and shown < given.most:
+                shown += 1
+                print(f"--- {name} {found['index']}: {found['kinds']}")
+                for path in ("main.proto", "middle.proto"):
+                    if path in found["files"] and found["kinds"]:
+                        print(found["files"][path])
+                print(f"protoc: {found['theirs']}\n{found['their_text']}here: {found['ours']}\n{found['our_text']}")
+    print(f"\n{name}: kind, files, verdicts that differ (accepted here/refused here),"
+          " first lines, all lines")
+    for kind in sorted(by_kind):
+        print(by_kind[kind].row(kind))
+    print(whole.row("all"))
+
+
+if __name__ == "__main__":
+    main()
