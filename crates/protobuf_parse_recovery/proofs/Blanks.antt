@@ -1,5 +1,5 @@
 -- Parts as if they were blanks.
-use Rattle.std.proofs.Common.{◌≡◌, ◌∙◌, ◌<◌, ℕ, ◌+◌, List, [], ◌∷◌, ◌++◌, ap, length, refl, sym}
+use Rattle.std.proofs.Common.{◌≡◌, ◌∙◌, ◌<◌, ℕ, ◌+◌, [], ◌∷◌, ◌++◌, ap, length, refl, sym}
 use Rattle.std.proofs.Common.{append-nil, append_assoc, get_or, take, Bool, true, false}
 use Rattle.std.proofs.Common.{nat_le, nat_lt, ◌||◌, ◌==◌}
 use Rattle.protobuf_parse_lexer.specs.Place.{after, step}

@@ -1,5 +1,5 @@
 -- What is told of a text.
-use Rattle.std.proofs.Common.{◌≤◌, ℕ, suc, List, [], ◌∷◌, arith, length}
+use Rattle.std.proofs.Common.{◌≤◌, ℕ, suc, List, arith, length}
 use Rattle.protobuf_parse_lexer.specs.Text.{Bytes}
 use Rattle.protobuf_parse_lexer.specs.declared.error.ParserErrorWithLocation.{ParserErrorWithLocation}
 use Rattle.protobuf_parse_recovery.specs.Laws.{FirstStands}

@@ -1,5 +1,5 @@
 -- A part of a text as if it were blanks.
-use Rattle.std.specs.Prelude.{ℕ, ◌-◌, ◌||◌, ◌==◌, if◌then◌else◌, nat_le, nat_lt, List, [], ◌∷◌}
+use Rattle.std.specs.Prelude.{ℕ, ◌-◌, ◌||◌, ◌==◌, if◌then◌else◌, nat_le, nat_lt, [], ◌∷◌}
 use Rattle.std.specs.Prelude.{◌++◌, take, drop}
 use Rattle.protobuf_parse_lexer.specs.Text.{Bytes}
 

@@ -7,7 +7,7 @@ mod laws;
 mod masking;
 mod statement;
 
-pub use faults::{MOST_FAULTS, parse_faults};
+pub use faults::{MOST_FAULTS, Reading, Rest, parse_faults, read_on};
 pub use laws::{faults_are_of_the_text, places_stay};
 pub use masking::mask;
 

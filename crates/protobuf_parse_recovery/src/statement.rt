@@ -36,7 +36,43 @@ struct Seen {
 pub fn statement_at(text: &str, place: Place) -> Option<Part>
     ensures { IfSome result (IsPart text.now) }
 {
-    let mut tokens = Tokenizer::new(text).ok()?;
+    let (seen, tokens) = seen_before(text, place);
+    let tokens = tokens?;
+    if seen.is_version || tokens.next.is_none() {
+        return None;
+    }
+    part_of(text, seen.from, end_from(text, tokens, &seen))
+}
+
+/// The statement in which a character stands that begins no token, or a number or a string that is
+/// none: from its beginning to the end of that line, but for braces there that may close bodies.
+///
+/// None where the text has no such place, or where the statement tells the version.
+pub fn torn_at(text: &str, place: Place) -> Option<Part>
+    ensures { IfSome result (IsPart text.now) }
+{
+    let (seen, _) = seen_before(text, place);
+    if seen.is_version {
+        return None;
+    }
+    let torn = offset_of(text, place)?;
+    let rest = text.get(torn..)?;
+    let line = match rest.split_once('\n') {
+        Some((line, _)) => line,
+        None => rest,
+    };
+    let len = line.trim_end_matches(may_close).len();
+    part_of(text, torn.min(seen.from), torn.saturating_add(len))
+}
+
+/// Whether it is a brace that closes, or a blank.
+fn may_close(character: char) -> bool {
+    character == '}' || character.is_whitespace()
+}
+
+/// What was seen of the statement in which the token at the place stands, and the tokens from there
+/// on: those that are left where the text has no token there.
+fn seen_before(text: &str, place: Place) -> (Seen, Option<Tokenizer<'_>>) {
     let mut seen = Seen {
         from: mark_len(text),
         open: 0,
@@ -44,8 +80,13 @@ pub fn statement_at(text: &str, place: Place) -> Option<Part>
         equals: false,
         is_version: false,
     };
+    let Ok(mut tokens) = Tokenizer::new(text) else {
+        return (seen, None);
+    };
     for number in 0..text.len() {
-        let token = tokens.next?;
+        let Some(token) = tokens.next else {
+            break;
+        };
         if number == 0 {
             seen.is_version = token.text == "syntax";
         }
@@ -55,10 +96,7 @@ pub fn statement_at(text: &str, place: Place) -> Option<Part>
         seen = seen_with(seen, &token, end_of(text, &tokens));
         tokens.advance();
     }
-    if seen.is_version {
-        return None;
-    }
-    part_of(text, seen.from, end_from(text, tokens, &seen))
+    (seen, Some(tokens))
 }
 
 /// The part from there up to there, if that is one of the text.
@@ -146,18 +184,11 @@ fn end_from(text: &str, tokens: Tokenizer<'_>, seen: &Seen) -> usize {
     text.len()
 }
 
-/// From the place to the end of its line, or of the text; with `whole`, always of the text. None
-/// where the text has no such place.
-pub fn rest_from(text: &str, place: Place, whole: bool) -> Option<Part>
+/// From the place to the end of the text. None where the text has no such place.
+pub fn rest_from(text: &str, place: Place) -> Option<Part>
     ensures { IfSome result (IsPart text.now) }
 {
-    let from = offset_of(text, place)?;
-    let rest = text.get(from..)?;
-    let len = match rest.find('\n') {
-        Some(len) if !whole => len,
-        _ => rest.len(),
-    };
-    part_of(text, from, from.saturating_add(len))
+    part_of(text, offset_of(text, place)?, text.len())
 }
 
 /// How many bytes stand before the place.

@@ -65,6 +65,32 @@ fn tells_faults_of_tokens_first(rt: HostRuntime) -> Result<(), Fail> {
 }
 
 #[test]
+fn goes_on_behind_what_is_no_token(rt: HostRuntime) -> Result<(), Fail> {
+    let rows = [
+        (
+            "message M { \u{a7} }\nmessage {}",
+            "1:13 S1 UnexpectedCharacter\n2:9 S8 IncorrectInput\n",
+        ),
+        (
+            "message M { optional int32 a = 0x; }",
+            "1:32 S4 BadNumber\n",
+        ),
+        (
+            "import \"abc;\nmessage M { optional x }",
+            "1:8 S3 UnterminatedString\n2:24 S8 IncorrectInput\n",
+        ),
+        (
+            "syntax = \"proto3;\nmessage M { x }",
+            "1:10 S3 UnterminatedString\n",
+        ),
+    ];
+    for (text, want) in rows {
+        assert_eq!(rt; told(rt.alloc(), text)?.as_str(), want);
+    }
+    Ok(())
+}
+
+#[test]
 fn keeps_lines_and_columns(rt: HostRuntime) -> Result<(), Fail> {
     let text = "\u{feff}message /* \u{e4}\u{1f600} */ {} message A { optional x }\n";
     let want = "1:18 S8 IncorrectInput\n1:44 S8 IncorrectInput\n";
@@ -110,5 +136,26 @@ fn masks_characters(rt: HostRuntime) -> Result<(), Fail> {
     let masked = mask(rt.alloc(), "a \u{e9}\n;b", 2, 6)?;
     assert_eq!(rt; masked.as_deref(), Some("a  \n b"));
     assert_eq!(rt; mask(rt.alloc(), "\u{e9}", 1, 2)?, None);
+    Ok(())
+}
+
+#[test]
+fn leaves_what_is_right(rt: HostRuntime) -> Result<(), Fail> {
+    let rows = [
+        ("message A {}", Some("message A {}")),
+        (
+            "message A {\n  bogus\n}\nmessage B {}\n",
+            Some("message A {\n       \n}\nmessage B {}\n"),
+        ),
+        ("message A {\n  optional int32 a = ;", None),
+    ];
+    for (text, want) in rows {
+        let Reading { rest, faults: _ } = read_on(rt.alloc(), text)?;
+        let left = match &rest {
+            Some(rest) => Some(rest.text.as_str()),
+            None => None,
+        };
+        assert_eq!(rt; left, want);
+    }
     Ok(())
 }
