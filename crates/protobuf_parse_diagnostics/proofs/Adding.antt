@@ -1,6 +1,6 @@
 -- Functions that tell one fault after another.
-use Rattle.std.proofs.Common.{◌≡◌, ◌∙◌, ℕ, List, [], ◌∷◌, ◌++◌, Option, None, Some, ap, arith, inl}
-use Rattle.std.proofs.Common.{append-nil, get_or, inr, length, map, refl, subst, sym, take, ◌+◌}
+use Rattle.std.proofs.Common.{◌≡◌, ◌∙◌, ℕ, List, [], ◌∷◌, ◌++◌, Option, None, Some, ap, inl}
+use Rattle.std.proofs.Common.{append-nil, get_or, inr, length, map, subst, sym, take, ◌+◌}
 use Rattle.std.proofs.Common.{◌<◌, true, false, nat_lt}
 use Rattle.std.specs.Prelude.{flat_map, slice_get, string_bytes}
 use Rattle.std.proofs.lemmas.Grind.{flat_map-append}

@@ -1,2 +1,3 @@
 pub mod Adding
 mod Breaking
+mod Laters

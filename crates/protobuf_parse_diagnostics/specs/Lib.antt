@@ -4,3 +4,4 @@ pub mod Telling
 pub mod Broken
 pub mod Arranged
 pub mod Texts
+pub mod Later

@@ -2,7 +2,7 @@
 
 use crate::outline::{Declared, DeclaredKind, Outline};
 use crate::sources::{Sources, tree_of};
-use protobuf_parse_syntax::Place;
+use protobuf_parse_syntax::{FileTree, Place};
 use std::alloc::{AllocError, Global};
 use std::collections::BTreeMap;
 
@@ -11,6 +11,17 @@ use std::collections::BTreeMap;
 #[derive(Drop)]
 pub struct DeclarationPlaces {
     places: BTreeMap<DeclaredKind, BTreeMap<String, Vec<Place>>>,
+}
+
+/// Where the declarations of a file begin, in the order of its text. The one error is that memory
+/// is short.
+pub fn declaration_starts(alloc: Global, tree: &FileTree) -> Result<Vec<Place>, AllocError> {
+    let outline = Outline::of(alloc, tree)?;
+    let mut starts = Vec::with_capacity(alloc, outline.declared.len())?;
+    for declared in &outline.declared {
+        starts.push(declared.place)?;
+    }
+    Ok(starts)
 }
 
 impl DeclarationPlaces {

@@ -8,6 +8,7 @@ ghost use Rattle.protobuf_parse_diagnostics.specs.Told.{report_lines};
 
 mod hints;
 mod known;
+mod near;
 
 use crate::diagnostic::Diagnostic;
 use crate::firsts::Firsts;

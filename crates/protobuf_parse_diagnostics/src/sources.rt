@@ -1,6 +1,7 @@
 //! The files that a run read.
 
-ghost use Rattle.std.specs.Prelude.{◌≡◌};
+ghost use Rattle.std.specs.Prelude.{◌≡◌, option_map};
+ghost use Rattle.protobuf_parse_diagnostics.specs.Later.{text_in};
 ghost use Rattle.protobuf_parse_diagnostics.specs.Told.{origin_in};
 
 use crate::scan::place_behind;
@@ -85,6 +86,15 @@ impl<'a> Sources<'a> {
     /// The file of this proto path.
     pub fn of_path(&self, path: &str) -> Option<&Source<'a>> {
         self.files.get(*self.by_path.get(path)?)
+    }
+
+    /// The text of the file of this proto path.
+    pub fn text_of(&self, path: &str) -> Option<&'a str>
+        ensures { option_map (λ text. text.now) result ≡ text_in self.now path.now }
+    {
+        let number = self.by_path.get(path)?;
+        let source = self.files.get(*number)?;
+        Some(source.text)
     }
 
     /// Where the file of this proto path lies; the path itself where nothing was read for it.

@@ -3,6 +3,7 @@
 ghost use Rattle.std.specs.Prelude.{◌≡◌};
 ghost use Rattle.protobuf_parse_diagnostics.specs.Codes.{syntax_code_of};
 
+use crate::fronts::help_with;
 use crate::paths::{path_code, path_sentence};
 use crate::scan::{Shown, character_at, token_at, word_at};
 use protobuf_parse_syntax::{ParserError, Place};
@@ -81,8 +82,8 @@ pub fn syntax_sentence(
         | ParserError::UnterminatedString
         | ParserError::BadNumber
         | ParserError::IntegerOverflow => lexical_sentence(alloc, fault, text, place),
-        ParserError::IncorrectInput
-        | ParserError::ExpectConstant
+        ParserError::IncorrectInput => unexpected_sentence(alloc, text, place),
+        ParserError::ExpectConstant
         | ParserError::UnknownSyntax
         | ParserError::LabelNotAllowed
         | ParserError::GroupNameShouldStartWithUpperCase
@@ -159,11 +160,22 @@ fn token_sentence(
         ParserError::StrLitDecode => Ok(Sentence::new(format!(in alloc;
             "{shown} stands for no text: an escape means nothing, or it is no UTF-8"
         )?)),
-        ParserError::OnlyFieldsInGroup => Ok(Sentence::new(format!(in alloc;
+        _ => Ok(Sentence::new(format!(in alloc;
             "only fields may stand in a group, and not {shown}"
         )?)),
-        _ => Ok(Sentence::new(format!(in alloc; "unexpected {shown}")?)),
     }
+}
+
+/// Of a token that can't stand there.
+fn unexpected_sentence(alloc: Global, text: &str, place: Place) -> Result<Sentence, AllocError> {
+    let token = token_at(text, place);
+    let shown = Shown(token);
+    let message = format!(in alloc; "unexpected {shown}")?;
+    let help = match help_with(text, place, token) {
+        Some(help) => Some(String::from_str(alloc, help)?),
+        None => None,
+    };
+    Ok(Sentence { message, help })
 }
 
 fn label_sentence(alloc: Global, token: Option<&str>) -> Result<Sentence, AllocError> {

@@ -3,6 +3,7 @@
 use crate::kinds::values_of_type;
 use crate::meaning::known::{Found, Sight};
 use crate::meaning::meaning_code;
+use crate::meaning::near::{near_name, other_kind};
 use crate::outline::{Declared, DeclaredKind};
 use protobuf_parse_model::{ElabError, ElabErrorKind};
 use protobuf_parse_syntax::{Place, Type};
@@ -12,6 +13,9 @@ use std::collections::BTreeMap;
 /// How many places a sentence names.
 const MOST_SITES: usize = 10;
 
+/// For how many names all that files declare is gone through: each takes time with all of it.
+const MOST_SEARCHES: usize = 50;
+
 /// What is told of names by themselves, each once made: many faults may speak of one name.
 #[derive(Drop)]
 pub struct Hints<'e> {
@@ -19,6 +23,8 @@ pub struct Hints<'e> {
     told: BTreeMap<(usize, &'static str, &'e str), Option<String>>,
     /// What fields of a name take, whatever file asks.
     taken: BTreeMap<&'e str, Option<String>>,
+    /// For how many names all that files declare was gone through.
+    searches: usize,
 }
 
 impl<'e> Hints<'e> {
@@ -27,11 +33,13 @@ impl<'e> Hints<'e> {
         Hints {
             told: BTreeMap::new(alloc),
             taken: BTreeMap::new(alloc),
+            searches: 0,
         }
     }
 
-    /// What would help with the fault, from where its file stands: where the name is declared, or
-    /// what it takes. The one error is that memory is short.
+    /// What would help with the fault, from where its file stands: where the name is declared, what
+    /// else has it, which other one may be meant, or what it takes. The one error is that memory is
+    /// short.
     pub fn hint(
         &mut self,
         alloc: Global,
@@ -59,9 +67,27 @@ impl<'e> Hints<'e> {
         if let Some(told) = self.told.get(&key) {
             return copied(alloc, told);
         }
-        let hint = where_declared(alloc, sight, error)?;
+        let mut hint = where_declared(alloc, sight, error)?;
+        if hint.is_none() {
+            hint = self.meant(alloc, sight, error)?;
+        }
         self.told.insert(key, copied(alloc, &hint)?)?;
         Ok(hint)
+    }
+
+    /// What else has the name, or which other name may be meant.
+    fn meant(
+        &mut self,
+        alloc: Global,
+        sight: &Sight<'_, '_, '_, '_>,
+        error: &ElabError,
+    ) -> Result<Option<String>, AllocError> {
+        let other = other_kind(alloc, sight, error)?;
+        if other.is_some() || self.searches >= MOST_SEARCHES {
+            return Ok(other);
+        }
+        self.searches += 1;
+        near_name(alloc, sight, error)
     }
 
     fn values_hint(
@@ -132,7 +158,7 @@ fn hint_of(
 }
 
 /// Whether the full name is the text, or ends in it after a dot.
-fn ends_in(full: &str, text: &str) -> bool {
+pub fn ends_in(full: &str, text: &str) -> bool {
     match full.strip_suffix(text) {
         Some(front) => text.starts_with('.') && front.is_empty() || front.ends_with('.'),
         None => false,
@@ -207,7 +233,7 @@ pub fn declared_twice(
 }
 
 /// Whether it declares what such a fault speaks of: an extension, or else a type.
-fn is_of_kind(declared: &Declared<'_>, kind: ElabErrorKind) -> bool {
+pub fn is_of_kind(declared: &Declared<'_>, kind: ElabErrorKind) -> bool {
     match kind {
         ElabErrorKind::ExtensionDeclaredTwice | ElabErrorKind::ExtensionNotFound => {
             declared.kind == DeclaredKind::Extension
