@@ -6,8 +6,9 @@
 Run it at the top of the repository, with a protoc of 3.21. It takes the files that it is given, or
 so many random schemas (random_schemas.py), and compares what `source_info` says with the
 `SourceCodeInfo` that `protoc --include_source_info` writes: each path, each span and each comment,
-in order. An option's path is compared up to the message of options. It prints each text of which a
-location differs, and how many were the same; a text that either refuses is left out and counted.
+in order. Paths of options are full, by `with_option_paths`; where a run refuses the file, whose
+folder is the include, they are compared up to the message of options. It prints each text of which
+a location differs, and how many were the same; a text that either refuses is left out and counted.
 What `source_info` says is told by a program that is made in a copy of the crates and runs by
 `rt try`.
 """
@@ -25,12 +26,16 @@ from random_schemas import text
 
 # So many texts go to the program at once, which may not write more than a megabyte.
 AT_ONCE = 25
-NEEDS = "protobuf_parse_lexer protobuf_parse_syntax protobuf_parse_source_info anyhow"
+NEEDS = "protobuf_parse_lexer protobuf_parse_syntax protobuf_parse_source_info protobuf_parse_index"
+NEEDS += " protobuf_parse_option_paths protobuf_parse anyhow"
 PROGRAM = """//! Prints the locations of files.
 #![tactic(auto)]
 
 use anyhow::{Result, anyhow};
-use protobuf_parse_source_info::{Location, source_info};
+use protobuf_parse::{ParsedAndTypechecked, Parser};
+use protobuf_parse_index::Index;
+use protobuf_parse_option_paths::{OptionFiles, with_option_paths};
+use protobuf_parse_source_info::{Location, SourceCodeInfo, source_info};
 use protobuf_parse_syntax::parse_file;
 use std::alloc::Global;
 use std::rt::Runtime;
@@ -45,10 +50,10 @@ fn comment<R: Runtime<A = Global>>(rt: &R, what: &str, bytes: &[u8]) -> Result<(
     Ok(())
 }
 
-fn one<R: Runtime<A = Global>>(rt: &R, location: &Location<'_>) -> Result<()> {
+fn one<R: Runtime<A = Global>>(rt: &R, location: &Location<'_>, is_full: bool) -> Result<()> {
     let at = location.span;
-    let is_option = location.option.is_some();
-    print!(rt; "L {is_option} {} {}", at.start.line, at.start.column)?;
+    let is_front = location.option.is_some() && !is_full;
+    print!(rt; "L {is_front} {} {}", at.start.line, at.start.column)?;
     print!(rt; " {} {}", at.end.line, at.end.column)?;
     for number in &location.path {
         print!(rt; " {number}")?;
@@ -66,7 +71,33 @@ fn one<R: Runtime<A = Global>>(rt: &R, location: &Location<'_>) -> Result<()> {
     Ok(())
 }
 
-fn file<R: Runtime<A = Global>>(rt: &R, name: &str) -> Result<()> {
+fn run<R: Runtime<A = Global>>(rt: &R, folder: &str, name: &str) -> Result<ParsedAndTypechecked> {
+    let mut parser = Parser::new(rt.alloc());
+    parser.google_files();
+    parser.push_include(folder)?;
+    parser.push_input(name)?;
+    Ok(parser.parse_and_typecheck(rt)?)
+}
+
+/// With full paths, where a run takes the file.
+fn full<'t, R: Runtime<A = Global>>(
+    rt: &R,
+    folder: &str,
+    name: &str,
+    info: SourceCodeInfo<'t>,
+) -> Result<(SourceCodeInfo<'t>, bool)> {
+    let Ok(parsed) = run(rt, folder, name) else {
+        return Ok((info, false));
+    };
+    let index = Index::of(rt.alloc(), &parsed.file_descriptors)?;
+    let files = OptionFiles { seen: &index, reached: &index };
+    match parsed.file_descriptors.last() {
+        Some(file) => Ok((with_option_paths(rt.alloc(), &files, file, info)?, true)),
+        None => Ok((info, false)),
+    }
+}
+
+fn file<R: Runtime<A = Global>>(rt: &R, folder: &str, name: &str) -> Result<()> {
     println!(rt; "F {name}")?;
     let text = fs::read_to_string(rt, name)?;
     let tree = match parse_file(rt.alloc(), &text) {
@@ -80,17 +111,24 @@ fn file<R: Runtime<A = Global>>(rt: &R, name: &str) -> Result<()> {
         Ok(info) => info,
         Err(error) => return Err(anyhow!("{error}")),
     };
+    let (info, is_full) = full(rt, folder, name, info)?;
     for location in &info.location {
-        one(rt, location)?;
+        one(rt, location, is_full)?;
     }
     Ok(())
 }
 
 fn main(rt: HostRuntime) -> Result<()> {
-    for name in env::args(&rt)?.skip(1) {
-        file(&rt, name.as_str())?;
+    let mut args = env::args(&rt)?.skip(1);
+    loop {
+        let Some(folder) = args.next() else {
+            return Ok(());
+        };
+        let Some(name) = args.next() else {
+            return Ok(());
+        };
+        file(&rt, folder.as_str(), name.as_str())?;
     }
-    Ok(())
 }
 """
 
@@ -159,8 +197,9 @@ def make_program(folder):
 
 
 def told_locations(paths, folder):
-    """For each path the same, and whether a location is an option's; None for a refused text."""
-    command = ["rt", "try", "--", *map(str, paths)]
+    """The same for each, and whether a location's path is but the front; None for a refused text."""
+    arguments = [part for path in paths for part in (str(path.parent), str(path))]
+    command = ["rt", "try", "--", *arguments]
     done = subprocess.run(command, capture_output=True, text=True, cwd=folder / "crates/located")
     if not done.stdout.startswith("F "):
         sys.exit(done.stdout[-1000:] + done.stderr[-1000:])
@@ -173,10 +212,10 @@ def told_locations(paths, folder):
         elif kind == "E":
             found[name] = None
         elif kind == "L":
-            is_option, *places = rest.split()
+            is_front, *places = rest.split()
             line1, column1, line2, column2, *path = map(int, places)
             ends = [column2] if line1 == line2 else [line2, column2]
-            found[name].append((path, [line1, column1, *ends], [], is_option == "true"))
+            found[name].append((path, [line1, column1, *ends], [], is_front == "true"))
         else:
             found[name][-1][2].append((int(kind), bytes(map(int, rest.split()))))
     return found
@@ -197,7 +236,7 @@ def main():
     parser.add_argument("--count", type=int, default=50)
     parser.add_argument("files", nargs="*", type=Path)
     given = parser.parse_args()
-    same = wrong = refused = 0
+    same = fronts = wrong = refused = 0
     with tempfile.TemporaryDirectory() as name:
         folder = Path(name)
         make_program(folder)
@@ -220,7 +259,9 @@ def main():
                     shutil.copy(path, ".") if path.parent == folder else None
                 else:
                     same += len(pairs)
-    print(f"{len(paths)} texts, {refused} refused, {wrong} differ; {same} locations are the same")
+                    fronts += sum(location[3] for location in ours)
+    print(f"{len(paths)} texts, {refused} refused, {wrong} differ; {same} locations are the same,")
+    print(f"{fronts} of them options up to the message of options")
     return 1 if wrong else 0
 
 
