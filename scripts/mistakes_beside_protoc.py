@@ -8,7 +8,9 @@ Makes N files with one mistake each (`--one`), N with two to five (`--some`) and
 in a file that is imported (`--behind`), of the kinds of scripts/mistaken.py, checks each with protoc
 and with the command, and prints for each kind how often the verdicts differ, how often protoc's
 first line is among ours, and how many of its lines are. Files and lines are compared, no texts.
-`--show KIND` prints the files of the kind where something differs, at most `--most`. The program is
+Of what protoc tells without a line, any line of the file will do; of what it tells elsewhere than
+where the mistake stands, the rule (ELSEWHERE). `--show KIND` prints
+the files of the kind where something differs, at most `--most`. The program is
 crates/protobuf_parse_cli/out/protobuf_parse_cli, as `rt run` builds it there.
 """
 
@@ -26,20 +28,46 @@ import mistaken
 PROGRAM = Path("crates/protobuf_parse_cli/out/protobuf_parse_cli")
 LINE = re.compile(r"^(?P<file>[^:\n]*):(?:(?P<line>\d+):(?P<col>\d+):)? (?P<text>.*)$", re.M)
 # Lines that go with another one, or that only name files: a sum of what was said at the imported file.
-AFTER = re.compile(r"Note that enum values|had errors|not found or had|seems to be defined in|suggested field")
+AFTER = re.compile(
+    r"Note that enum values|had errors|not found or had|seems to be defined in|uggested field|File not found"
+)
 SETS = {"one": mistaken.one, "some": mistaken.some, "behind": mistaken.behind}
 
 
+# What protoc tells where the mistake isn't, or at the other one of two constructs: a line is told if
+# its rule is told in the file.
+ELSEWHERE = [
+    (re.compile(r"declares 'option allow_alias = false;'"), "C10"),
+    (re.compile(r"declares support for enum aliases but"), "C40"),
+    (re.compile(r"is reserved multiple times"), "C38"),
+    (re.compile(r"^Extension range .* includes field"), "C31"),
+    (re.compile(r"^Extension range .* overlaps with"), "C39"),
+]
+CODE = re.compile(r"\[([A-Z]\d+)\]$")
+
+
 def told(text, folder):
-    """What is told as errors: files and lines, in order; and what is told as warnings."""
-    errors, warnings = [], []
+    """What is told as errors, in order: of each the file, the line and the text."""
+    errors = []
     for found in LINE.finditer(text.replace(f"{folder}/", "")):
-        at = (found["file"], found["line"])
-        if "warning" in found["text"][:12]:
-            warnings.append(at)
-        elif not AFTER.search(found["text"]):
-            errors.append(at)
-    return errors, warnings
+        said = found["text"]
+        if "warning" not in said[:12] and not AFTER.search(said):
+            errors.append((found["file"].removeprefix("./"), found["line"], said))
+    return list(dict.fromkeys(errors))
+
+
+def is_among(error, ours):
+    """Whether an error of protoc is told here: one without a line by any error of its file."""
+    file, line, said = error
+    for our_file, our_line, our_text in ours:
+        if file == our_file and line in (None, our_line):
+            return True
+        code = CODE.search(our_text)
+        if file == our_file and code and any(
+            rule == code[1] and pattern.search(said) for pattern, rule in ELSEWHERE
+        ):
+            return True
+    return False
 
 
 def run(words, folder):
@@ -60,7 +88,7 @@ def compare(given):
         "kinds": kinds, "files": files, "index": index,
         "theirs": theirs.returncode, "ours": ours.returncode,
         "their_text": theirs.stderr, "our_text": ours.stderr,
-        "their_lines": told(theirs.stderr, folder)[0], "our_lines": told(ours.stderr, folder)[0],
+        "their_lines": told(theirs.stderr, folder), "our_lines": told(ours.stderr, folder),
     }
 
 
@@ -78,12 +106,12 @@ class Count:
                 self.accepted_here += 1
             else:
                 self.refused_here += 1
-        lines = list(dict.fromkeys(found["their_lines"]))
+        lines = found["their_lines"]
         if theirs and lines:
             self.refused += 1
-            self.first += lines[0] in found["our_lines"]
+            self.first += is_among(lines[0], found["our_lines"])
             self.lines += len(lines)
-            self.among += sum(line in found["our_lines"] for line in lines)
+            self.among += sum(is_among(line, found["our_lines"]) for line in lines)
 
     def row(self, name):
         first = f"{self.first} of {self.refused}"
@@ -95,7 +123,7 @@ class Count:
 def differs(found):
     theirs, ours = found["theirs"] != 0, found["ours"] != 0
     lines = found["their_lines"]
-    return theirs != ours or (theirs and lines and lines[0] not in found["our_lines"])
+    return theirs != ours or (theirs and lines and not is_among(lines[0], found["our_lines"]))
 
 
 def main():

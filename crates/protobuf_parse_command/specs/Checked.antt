@@ -8,6 +8,7 @@ use Rattle.protobuf_parse_text_rules.specs.declared.violation.TextViolation.{Tex
 use Rattle.protobuf_parse_check.specs.declared.report.Check.{Check}
 use Rattle.protobuf_parse_diagnostics.specs.Arranged.{IsArranged}
 use Rattle.protobuf_parse_diagnostics.specs.Broken.{AreViolationsTold, told_at_level}
+use Rattle.protobuf_parse_diagnostics.specs.Later.{AreLater}
 use Rattle.protobuf_parse_diagnostics.specs.Texts.{IsTextTold}
 use Rattle.protobuf_parse_diagnostics.specs.Told.{AreTold, check_lines}
 use Rattle.protobuf_parse_diagnostics.specs.declared.diagnostic.Diagnostic.{Diagnostic}
@@ -32,8 +33,9 @@ abbrev pub AreTextRulesTold : RuleLevel → List Diagnostic → Type 0
 AreTextRulesTold at [] = Unit {0}
 AreTextRulesTold at (d ∷ ds) = IsTextRuleTold at d × AreTextRulesTold at ds
 
--- The check was done. Told is what was told before it, each of its faults and each violation, those
--- of texts last, put in order; the files are the sound ones.
+-- The check was done. Told is what was told before it, each of its faults, those behind the first of
+-- each text that has no tree, and violations: those of texts, of files that are not sound, and of
+-- sound ones. All is put in order; the files are the sound ones.
 pub record IsChecked (eq : Diagnostic → Diagnostic → Bool) (at : RuleLevel)
     (before : List Diagnostic) (inputs : List ProtoPathBuf) (result : Result Check AllocError)
     (checked : Checked) : Type 0 where
@@ -42,10 +44,15 @@ pub record IsChecked (eq : Diagnostic → Diagnostic → Bool) (at : RuleLevel)
   pub sources : Sources
   pub faults : List Diagnostic
   pub faults_told : AreTold (check_lines sources check) faults
-  pub rules : List Diagnostic
-  pub rules_told : AreRulesTold at rules
+  pub later : List Diagnostic
+  pub later_told : AreLater sources check.unread.items later
   pub texts : List Diagnostic
   pub texts_told : AreTextRulesTold at texts
-  pub told : IsArranged eq (((before ++ faults) ++ rules) ++ texts) checked.told.items
+  pub unsound : List Diagnostic
+  pub unsound_told : AreRulesTold at unsound
+  pub rules : List Diagnostic
+  pub rules_told : AreRulesTold at rules
+  pub told : IsArranged eq (((((before ++ faults) ++ later) ++ texts) ++ unsound) ++ rules)
+      checked.told.items
   pub files : checked.files.items ≡ map descriptor_in (filter is_sound check.files.items)
   pub named : checked.inputs.items ≡ inputs

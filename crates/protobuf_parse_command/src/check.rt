@@ -8,8 +8,11 @@ use crate::inputs::input_of;
 use crate::reading::Folders;
 use crate::rules::{RuleFiles, told_rules, told_texts};
 use crate::sound::{SoundFiles, sound_files};
+use crate::unsound::told_unsound;
 use protobuf_parse::{CheckLog, FileDescriptorProto, ProtoPathBuf, RunInput, google_files};
-use protobuf_parse_diagnostics::{Diagnostic, Reasons, Sources, arrange, check_diagnostics};
+use protobuf_parse_diagnostics::{
+    Diagnostic, Reasons, Sources, arrange, check_diagnostics, later_diagnostics,
+};
 use std::alloc::{AllocError, Global};
 use std::rt::Files;
 
@@ -24,8 +27,8 @@ pub struct Checked {
     pub inputs: Vec<ProtoPathBuf>,
 }
 
-/// Checks the files of the command line, and all that they reach. Rules are told of sound files.
-/// The one error is that memory is short.
+/// Checks the files of the command line, and all that they reach. Rules are told of each file that
+/// has a tree, of those that are not sound as far as they go. The one error is that memory is short.
 pub fn check_files<R: Files + AllocGlobal>(
     rt: &R,
     alloc: Global,
@@ -64,6 +67,10 @@ fn checked_of<W: Reasons>(
     let check = result?;
     let sources = Sources::of_reads(alloc, &reads, google_files())?;
     told.append(&mut check_diagnostics(alloc, &sources, &check, reasons)?)?;
+    told.append(&mut later_diagnostics(alloc, &sources, &check.unread)?)?;
+    told.append(&mut told_texts(alloc, arguments, &sources, &check, &inputs)?)?;
+    let mut unsound = told_unsound(alloc, arguments, &sources, &check, &told, &inputs)?;
+    told.append(&mut unsound)?;
     let SoundFiles { files, trees } = sound_files(alloc, check.files)?;
     let held = RuleFiles {
         files: &files,
@@ -71,7 +78,6 @@ fn checked_of<W: Reasons>(
         inputs: &inputs,
     };
     told.append(&mut told_rules(alloc, arguments, &sources, &held)?)?;
-    told.append(&mut told_texts(alloc, arguments, &sources, &held)?)?;
     arrange(&mut told)?;
     Ok(Checked {
         told,

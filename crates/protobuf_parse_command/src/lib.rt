@@ -12,6 +12,7 @@ mod run;
 mod shadow;
 mod sound;
 mod told;
+mod unsound;
 mod words;
 
 pub use run::{command, run_program};

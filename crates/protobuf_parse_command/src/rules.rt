@@ -4,11 +4,15 @@ ghost use Rattle.std.specs.Prelude.{IfOk, OnOk};
 ghost use Rattle.protobuf_parse_command.specs.Checked.{AreRulesTold, AreTextRulesTold};
 
 use crate::arguments::Arguments;
-use protobuf_parse::{FileDescriptorProto, NamedKind, ProtoPathBuf, Rule, Violation, violations};
+use protobuf_parse::{
+    Check, FileDescriptorProto, FileReport, NamedKind, ProtoPathBuf, Rule, RunFault, UnreadFile,
+    Violation, violations,
+};
 use protobuf_parse_diagnostics::{
     Diagnostic, NamedTree, RuleLevel, Sources, rule_diagnostics_by_trees, text_rule_diagnostics,
 };
-use protobuf_parse_text_rules::text_violations;
+use protobuf_parse_recovery::read_on;
+use protobuf_parse_text_rules::{TextRule, text_violations};
 use std::alloc::{AllocError, Global};
 use std::collections::{BTreeMap, BTreeSet};
 use std::slice;
@@ -46,16 +50,26 @@ fn told_violations(
     arguments: &Arguments,
     held: &RuleFiles<'_>,
 ) -> Result<Vec<Violation>, AllocError> {
-    let mut all = violations(alloc, held.files)?;
-    let seconds = Seconds::of(alloc, &all)?;
-    all.retain(|violation| !seconds.speak_of(violation));
-    for file in held.files {
-        all.append(&mut seconds.numbers_in(alloc, file)?)?;
-    }
-    let inputs = held.paths_of_inputs(alloc)?;
+    let mut all = violations_in(alloc, held.files)?;
+    let inputs = paths_of(alloc, held.inputs)?;
     all.retain(|violation| {
         is_told_of(violation, arguments) || inputs.contains(violation.file.as_str())
     });
+    Ok(all)
+}
+
+/// All violations in the files, in no order: of two messages of one name each has its own numbers.
+/// The one error is that memory is short.
+pub fn violations_in(
+    alloc: Global,
+    files: &[FileDescriptorProto],
+) -> Result<Vec<Violation>, AllocError> {
+    let mut all = violations(alloc, files)?;
+    let seconds = Seconds::of(alloc, &all)?;
+    all.retain(|violation| !seconds.speak_of(violation));
+    for file in files {
+        all.append(&mut seconds.numbers_in(alloc, file)?)?;
+    }
     Ok(all)
 }
 
@@ -65,23 +79,24 @@ fn is_told_of(violation: &Violation, arguments: &Arguments) -> bool {
     !arguments.rules_of_files && !matches!(violation.rule, Rule::ImportUnused)
 }
 
-impl<'a> RuleFiles<'a> {
-    /// The proto paths of the inputs.
-    fn paths_of_inputs(&self, alloc: Global) -> Result<BTreeSet<&'a str>, AllocError> {
-        let mut inputs = BTreeSet::new(alloc);
-        for name in self.inputs {
-            inputs.insert(name.as_path().to_str())?;
-        }
-        Ok(inputs)
+/// The proto paths of the inputs. The one error is that memory is short.
+pub fn paths_of(alloc: Global, inputs: &[ProtoPathBuf]) -> Result<BTreeSet<&str>, AllocError> {
+    let mut paths = BTreeSet::new(alloc);
+    for name in inputs {
+        paths.insert(name.as_path().to_str())?;
     }
+    Ok(paths)
 }
 
-/// What is told of the rules of texts in the same files. The one error is that memory is short.
+/// What is told of the rules of texts in all files of a check, or where that is asked for in the
+/// inputs alone. A file that is not sound has a text too, and of one that has no tree what is left
+/// without its faults. The one error is that memory is short.
 pub fn told_texts(
     alloc: Global,
     arguments: &Arguments,
     sources: &Sources<'_>,
-    held: &RuleFiles<'_>,
+    check: &Check,
+    inputs: &[ProtoPathBuf],
 ) -> Result<Vec<Diagnostic>, AllocError>
     ensures { IfOk result (λ told. AreTextRulesTold arguments.now.rules told.items) }
 {
@@ -89,30 +104,59 @@ pub fn told_texts(
     if matches!(arguments.rules, RuleLevel::Off) {
         return Ok(told);
     }
-    let inputs = held.paths_of_inputs(alloc)?;
-    for named in held.trees {
-        if !arguments.rules_of_files || inputs.contains(named.path.as_str()) {
-            tell_texts(alloc, &mut told, arguments, sources, named)?;
+    let inputs = paths_of(alloc, inputs)?;
+    for report in &check.files {
+        if !arguments.rules_of_files || inputs.contains(report.path.as_str()) {
+            tell_texts(alloc, &mut told, arguments, sources, report)?;
+        }
+    }
+    for file in &check.unread {
+        if !arguments.rules_of_files || inputs.contains(file.path.as_str()) {
+            tell_rest(alloc, &mut told, arguments, sources, file)?;
         }
     }
     Ok(told)
 }
 
-/// Tells those of the file that has the tree.
+/// Tells those of the file of the report.
 fn tell_texts(
     alloc: Global,
     told: &mut Vec<Diagnostic>,
     arguments: &Arguments,
     sources: &Sources<'_>,
-    named: &NamedTree,
+    report: &FileReport,
 ) -> Result<(), AllocError>
     ensures { AreTextRulesTold arguments.now.rules told.old.items
         → OnOk result (AreTextRulesTold arguments.now.rules told.new.items) }
 {
-    let Some(source) = sources.of_path(&named.path) else {
+    let Some(source) = sources.of_path(&report.path) else {
         return Ok(());
     };
-    let found = text_violations(alloc, source.text, &named.tree)?;
+    let found = text_violations(alloc, source.text, &report.tree)?;
+    told.append(&mut text_rule_diagnostics(alloc, source.origin, &found, arguments.rules)?)?;
+    Ok(())
+}
+
+/// Tells those of a text that has no tree, in what is left of it without its faults. An `extend`
+/// may have had fields there.
+fn tell_rest(
+    alloc: Global,
+    told: &mut Vec<Diagnostic>,
+    arguments: &Arguments,
+    sources: &Sources<'_>,
+    file: &UnreadFile,
+) -> Result<(), AllocError>
+    ensures { AreTextRulesTold arguments.now.rules told.old.items
+        → OnOk result (AreTextRulesTold arguments.now.rules told.new.items) }
+{
+    let (RunFault::Parse(_, _), Some(source)) = (&file.fault, sources.of_path(&file.path)) else {
+        return Ok(());
+    };
+    let Some(rest) = read_on(alloc, source.text)?.rest else {
+        return Ok(());
+    };
+    let mut found = text_violations(alloc, &rest.text, &rest.tree)?;
+    found.retain(|violation| !matches!(violation.rule, TextRule::ExtendWithoutFields));
     told.append(&mut text_rule_diagnostics(alloc, source.origin, &found, arguments.rules)?)?;
     Ok(())
 }

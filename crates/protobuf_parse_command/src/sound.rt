@@ -39,7 +39,8 @@ pub fn sound_files(alloc: Global, reports: Vec<FileReport>) -> Result<SoundFiles
     Ok(SoundFiles { files, trees })
 }
 
-fn is_sound(report: &FileReport) -> bool
+/// Whether nothing is wrong in the file, and in all that it reaches.
+pub fn is_sound(report: &FileReport) -> bool
     ensures { result ≡ is_sound report.now }
 {
     match report.state {

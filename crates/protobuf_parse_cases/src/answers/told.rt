@@ -8,7 +8,7 @@ use anyhow::Result;
 use protobuf_parse::{CheckLog, FileReport, ProtoPathBuf, RunInput, bundled_files, check_inputs};
 use protobuf_parse_diagnostics::{
     Diagnostic, NoReasons, RuleLevel, Source, Sources, arrange, check_diagnostics,
-    rule_diagnostics, text_rule_diagnostics,
+    later_diagnostics, rule_diagnostics, text_rule_diagnostics,
 };
 use protobuf_parse_rules::violations;
 use protobuf_parse_syntax::parse_file;
@@ -16,9 +16,9 @@ use protobuf_parse_text_rules::text_violations;
 use std::alloc::{AllocError, Global};
 
 /// What is told of the inputs behind the verb, with the files that the library brings: a line for
-/// each fault that a check finds; where it finds none, for each violation of a rule, those of texts
-/// too; or nothing. A
-/// row's text is the file `f.proto`, beside the files of the case, and is then the input.
+/// each fault that a check finds, and each further one of a text that has no tree; where it finds
+/// none, for each violation of a rule, those of texts too; or nothing. A row's text is the file
+/// `f.proto`, beside the files of the case, and is then the input.
 pub fn told(alloc: Global, case: &Case, row: &Row) -> Result<String> {
     let Some(content) = &row.given else {
         return Ok(told_of(alloc, &case.argument, &case.files)?);
@@ -48,6 +48,8 @@ fn told_of(alloc: Global, words: &str, files: &[CaseFile]) -> Result<String, All
     let mut told = check_diagnostics(alloc, &sources, &check, &NoReasons)?;
     if told.is_empty() {
         told.append(&mut told_of_rules(alloc, &sources, check.files)?)?;
+    } else {
+        told.append(&mut later_diagnostics(alloc, &sources, &check.unread)?)?;
     }
     arrange(&mut told)?;
     let mut text = String::new(alloc);
