@@ -11,7 +11,7 @@ use protobuf_parse::{
 use protobuf_parse_diagnostics::{
     Diagnostic, NamedTree, RuleLevel, Sources, rule_diagnostics_by_trees, text_rule_diagnostics,
 };
-use protobuf_parse_recovery::read_on;
+use protobuf_parse_recovery::{Reading, read_on};
 use protobuf_parse_text_rules::{TextRule, text_violations};
 use std::alloc::{AllocError, Global};
 use std::collections::{BTreeMap, BTreeSet};
@@ -149,10 +149,14 @@ fn tell_rest(
     ensures { AreTextRulesTold arguments.now.rules told.old.items
         → OnOk result (AreTextRulesTold arguments.now.rules told.new.items) }
 {
-    let (RunFault::Parse(_, _), Some(source)) = (&file.fault, sources.of_path(&file.path)) else {
+    let RunFault::Parse(_, _) = &file.fault else {
         return Ok(());
     };
-    let Some(rest) = read_on(alloc, source.text)?.rest else {
+    let Some(source) = sources.of_path(&file.path) else {
+        return Ok(());
+    };
+    let Reading { faults: _, rest } = read_on(alloc, source.text)?;
+    let Some(rest) = rest else {
         return Ok(());
     };
     let mut found = text_violations(alloc, &rest.text, &rest.tree)?;

@@ -11,5 +11,5 @@ returns c = λ before.
     let texts : List Diagnostic = c.in_ok-text_rule_diagnostics.field-0.items in
     subst (λ (ds : List Diagnostic). AreTextRulesTold level ds) (sym c.in_ok-append.ensures.items)
     (more_texts level c.args.told.now.items texts before
-    (of_text level c.in-Some.source.now.origin.now (told_at_level level c.deref-2.result.now) texts
+    (of_text level _ (told_at_level level _) texts
     c.in_ok-text_rule_diagnostics.ensures))
