@@ -1,0 +1,11 @@
+pub mod Breaches
+pub mod Codes
+pub mod Names
+pub mod Positions
+pub mod Types
+pub mod Sights
+pub mod Rules
+pub mod Law
+pub mod Views
+pub mod Held
+pub mod Steps
