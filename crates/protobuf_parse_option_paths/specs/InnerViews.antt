@@ -1,5 +1,4 @@
 -- No public clause rests on this file.
--- No public clause rests on this file.
 -- What the code keeps, without where it lies in memory.
 use Rattle.std.specs.Prelude.{ℕ, List, Option, Vec, option_map, unwrap_or, map}
 use Rattle.std.specs.Prelude.{◌≡◌, ◌==◌, if◌then◌else◌, slice_get}
