@@ -12,6 +12,7 @@ use crate::body::{Body, body_inside};
 use crate::fault::{SetError, SetFaultKind, fault};
 use crate::messages::MOST_LEVELS;
 use crate::values::{needed_str, text};
+use protobuf_parse_base::joins::join_at_dot;
 use protobuf_parse_model::FieldType;
 use std::alloc::{AllocError, Global};
 use std::collections::BTreeMap;
@@ -93,19 +94,9 @@ fn package_scope(alloc: Global, said: &Option<String>) -> Result<String, AllocEr
         ≡ spec.package_scope (option_map string_bytes said.now)) }
 {
     match said {
-        Some(package) if !package.is_empty() => joined(alloc, "", package.as_str()),
+        Some(package) if !package.is_empty() => join_at_dot(alloc, "", package.as_str()),
         _ => Ok(String::new(alloc)),
     }
-}
-
-/// The name in that scope.
-fn joined(alloc: Global, scope: &str, name: &str) -> Result<String, AllocError>
-    ensures { IfOk result (λ full. string_bytes full ≡ spec.within scope.now name.now) }
-{
-    let mut full = String::from_str(alloc, scope)?;
-    full.push('.')?;
-    full.push_str(name)?;
-    Ok(full)
 }
 
 /// Of a message in that scope, with at most so many levels of messages, itself one.
@@ -124,7 +115,7 @@ fn message_names(
         return Err(fault(message.start, SetFaultKind::TooDeep));
     }
     let name = needed_str(message, 1, SetFaultKind::NoName)?;
-    let full = joined(alloc, scope, name)?;
+    let full = join_at_dot(alloc, scope, name)?;
     let mut nested = messages_names(alloc, levels - 1, full.as_str(), message, 3)?;
     let mut enums = enum_names(alloc, full.as_str(), message, 4)?;
     let mut names = Vec::new(alloc);
@@ -188,7 +179,7 @@ fn enum_name(alloc: Global, scope: &str, body: &Body<'_>) -> Result<TypeName, Se
 {
     let name = needed_str(body, 1, SetFaultKind::NoName)?;
     Ok(TypeName {
-        name: joined(alloc, scope, name)?,
+        name: join_at_dot(alloc, scope, name)?,
         type_: FieldType::Enum,
     })
 }

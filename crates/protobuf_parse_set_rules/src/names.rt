@@ -9,17 +9,14 @@ ghost use Rattle.protobuf_parse_set_rules.specs.Views.{told};
 
 use crate::rule::SetRule;
 use crate::violation::{SetViolation, Spot, tell_if};
+use protobuf_parse_base::joins::join_at_dot;
 use std::alloc::{AllocError, Global};
 
 /// The name in that scope.
 pub fn within(alloc: Global, scope: &str, name: &str) -> Result<String, AllocError>
     ensures { IfOk result (λ full. string_bytes full ≡ spec.within scope.now name.now) }
 {
-    let mut full = String::with_capacity(alloc, 0)?;
-    full.push_str(scope)?;
-    full.push('.')?;
-    full.push_str(name)?;
-    Ok(full)
+    join_at_dot(alloc, scope, name)
 }
 
 /// The scope of a file of that package.
