@@ -1,5 +1,5 @@
--- The codes of the rules of texts.
-use Rattle.std.specs.Prelude.{codes}
+-- The codes of the rules of texts, and which of them protoc only warns of.
+use Rattle.std.specs.Prelude.{Bool, true, false, codes}
 use Rattle.protobuf_parse_lexer.specs.Text.{Bytes}
 use Rattle.protobuf_parse_text_rules.specs.declared.rule.TextRule.{TextRule}
 use Rattle.protobuf_parse_text_rules.specs.declared.rule.TextRule.TheVariants as rule
@@ -17,3 +17,16 @@ code_of rule.MapEntrySet = codes "T8"
 code_of rule.ExtendWithoutFields = codes "T9"
 code_of rule.StatementWithoutSemicolon = codes "T10"
 code_of rule.MethodWithoutRpc = codes "T11"
+code_of rule.SemicolonAlone = codes "T12"
+code_of rule.NameResolvedInside = codes "T13"
+code_of rule.CustomOptionTwice = codes "T14"
+code_of rule.ConstantFieldTwice = codes "T15"
+code_of rule.ListForSingular = codes "T16"
+code_of rule.OneofMemberTwice = codes "T17"
+code_of rule.RequiredFieldMissing = codes "T18"
+code_of rule.SyntaxMissing = codes "T19"
+
+-- whether protoc takes such texts, and only warns of them
+abbrev pub is_warning : TextRule → Bool
+is_warning rule.SyntaxMissing = true
+is_warning _ = false

@@ -6,7 +6,7 @@ use Rattle.protobuf_parse_syntax.specs.Trees.{ExtendSyntax, FieldStatementList}
 use Rattle.protobuf_parse_syntax.specs.Trees.{FieldStatementSyntax, FieldSyntax, TypeSyntax, field}
 use Rattle.protobuf_parse_syntax.specs.Trees.{group, map_of, more_field_statements}
 use Rattle.protobuf_parse_syntax.specs.Trees.{no_field_statements}
-use Rattle.protobuf_parse_text_rules.specs.Breaches.{TextBreach, breach_if}
+use Rattle.protobuf_parse_text_rules.specs.Breaches.{TextBreach, breach, breach_if}
 use Rattle.protobuf_parse_text_rules.specs.Options.{json_breaches, option_breaches}
 use Rattle.protobuf_parse_text_rules.specs.declared.rule.TextRule.TheVariants as rule
 
@@ -42,8 +42,8 @@ abbrev pub is_nil : {X : Type 0} → List X → Bool
 is_nil [] = true
 is_nil (x ∷ xs) = false
 
--- T9 at an `extend` without fields, and what is wrong with its extensions
+-- T12 of an `extend`, T9 where it has no fields, and what is wrong with its extensions
 abbrev pub extend_breaches : ExtendSyntax → List TextBreach
-extend_breaches e =
-    breach_if (is_nil e.fields) rule.ExtendWithoutFields e.place e.extendee
-    ++ flat_map extension_breaches e.fields
+extend_breaches e = breach rule.SemicolonAlone e.place e.extendee
+    ∷ (breach_if (is_nil e.fields) rule.ExtendWithoutFields e.place e.extendee
+    ++ flat_map extension_breaches e.fields)

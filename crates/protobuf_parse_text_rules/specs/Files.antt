@@ -1,8 +1,8 @@
 -- What a tree shows of the rules of texts, in the order of the text: a file names its package once
 -- (Protocol Buffers Language Specification (proto3), "Proto file", https://protobuf.dev), and no
 -- message sets `map_entry` (the comment of that option in google/protobuf/descriptor.proto). How a
--- statement ends and begins a tree doesn't tell: T10 and T11 stand here at each statement that they
--- may be of.
+-- statement ends and begins a tree doesn't tell: T10, T11 and T12 stand here at each statement that
+-- they may be of.
 use Rattle.std.specs.Prelude.{Bool, true, false, List, [], ◌∷◌, ◌++◌, flat_map, map}
 use Rattle.protobuf_parse_syntax.specs.Trees.{EnumStatementSyntax, EnumSyntax, FileSyntax}
 use Rattle.protobuf_parse_syntax.specs.Trees.{MessageStatementList, MessageStatementSyntax}
@@ -33,10 +33,10 @@ abbrev pub inside_oneof : OneofStatementSyntax → List TextBreach
 inside_oneof (oneof_option o) = []
 inside_oneof (oneof_field f) = statement_breaches f
 
--- of a oneof
+-- T12 of a oneof, and what is wrong in it
 abbrev pub oneof_breaches : OneofSyntax → List TextBreach
-oneof_breaches o =
-    option_breaches (flat_map option_in_oneof o.body) ++ flat_map inside_oneof o.body
+oneof_breaches o = breach rule.SemicolonAlone o.place o.name
+    ∷ (option_breaches (flat_map option_in_oneof o.body) ++ flat_map inside_oneof o.body)
 
 -- ---- enums
 

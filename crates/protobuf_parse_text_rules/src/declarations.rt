@@ -28,6 +28,8 @@ pub fn check_oneof(
     ensures { OnOk result (told found.new ≡ told found.old
         ++ spec.oneof_breaches (oneof_syntax oneof.now)) }
 {
+    let rule = TextRule::SemicolonAlone;
+    tell(alloc, found, rule, oneof.place, &oneof.name)?;
     let options = options_of_oneof(alloc, &oneof.body)?;
     check_options(alloc, found, &options)?;
     check_oneof_body(alloc, found, &oneof.body)

@@ -10,7 +10,7 @@ ghost use Rattle.protobuf_parse_text_rules.specs.Views.{told};
 
 use crate::options::{check_list, references, tell_named};
 use crate::rule::TextRule;
-use crate::violation::{TextViolation, tell_if};
+use crate::violation::{TextViolation, tell, tell_if};
 use protobuf_parse_syntax::{Extend, Field, FieldStatement, ProtobufOption, Type};
 use std::alloc::{AllocError, Global};
 
@@ -80,6 +80,8 @@ pub fn check_extend(
     ensures { OnOk result (told found.new ≡ told found.old
         ++ spec.extend_breaches (extend_syntax extend.now)) }
 {
+    let rule = TextRule::SemicolonAlone;
+    tell(alloc, found, rule, extend.place, &extend.extendee)?;
     tell_if(
         alloc,
         found,

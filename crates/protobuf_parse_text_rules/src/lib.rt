@@ -2,6 +2,7 @@
 //! of the rules of texts, each at its place.
 #![tactic(auto)]
 
+mod bodies;
 mod constants;
 mod declarations;
 mod fields;
@@ -14,7 +15,7 @@ mod violation;
 
 pub use rule::TextRule;
 pub use statements::text_violations;
-pub use violation::TextViolation;
+pub use violation::{TextViolation, tell, tell_if};
 
 #[cfg(test)]
 mod tests;

@@ -1,7 +1,7 @@
 //! The rules of texts.
 
 ghost use Rattle.std.specs.Prelude.{◌≡◌};
-ghost use Rattle.protobuf_parse_text_rules.specs.Codes.{code_of};
+ghost use Rattle.protobuf_parse_text_rules.specs.Codes.{code_of, is_warning};
 
 use thiserror::Error;
 
@@ -41,6 +41,30 @@ pub enum TextRule {
     /// T11: a method, `name`, begins with `stream`.
     #[error("a method begins with `rpc`; `stream` stands before a type")]
     MethodWithoutRpc,
+    /// T12: a `;` stands alone in a oneof or in an `extend`.
+    #[error("a `;` cannot stand alone in a oneof or in an `extend`")]
+    SemicolonAlone,
+    /// T13: a scope around a name, `name`, declares its first part, and not the rest.
+    #[error("the innermost scope that has the first part of the name hasn't the rest")]
+    NameResolvedInside,
+    /// T14: a custom option, `name`, is set already in the list or the body.
+    #[error("the custom option is set already")]
+    CustomOptionTwice,
+    /// T15: a message constant sets a field, `name`, twice that is not repeated.
+    #[error("the field of the message constant is set already")]
+    ConstantFieldTwice,
+    /// T16: a message constant sets a field, `name`, to a list that is not repeated.
+    #[error("a field that is not repeated cannot have a list")]
+    ListForSingular,
+    /// T17: a message constant sets a field, `name`, of a oneof of which another one is set.
+    #[error("another field of the oneof is set already")]
+    OneofMemberTwice,
+    /// T18: a message constant lacks a required field, `name`.
+    #[error("the message constant lacks a required field")]
+    RequiredFieldMissing,
+    /// T19: no `syntax` statement begins the text, which is proto2 then. A warning.
+    #[error("no `syntax` statement begins the file, so it is proto2")]
+    SyntaxMissing,
 }
 
 impl TextRule {
@@ -60,6 +84,21 @@ impl TextRule {
             TextRule::ExtendWithoutFields => "T9",
             TextRule::StatementWithoutSemicolon => "T10",
             TextRule::MethodWithoutRpc => "T11",
+            TextRule::SemicolonAlone => "T12",
+            TextRule::NameResolvedInside => "T13",
+            TextRule::CustomOptionTwice => "T14",
+            TextRule::ConstantFieldTwice => "T15",
+            TextRule::ListForSingular => "T16",
+            TextRule::OneofMemberTwice => "T17",
+            TextRule::RequiredFieldMissing => "T18",
+            TextRule::SyntaxMissing => "T19",
         }
+    }
+
+    /// Whether `protoc` takes such texts, and only warns of them.
+    pub fn is_warning(&self) -> bool
+        ensures { result ≡ is_warning self.now }
+    {
+        matches!(self, TextRule::SyntaxMissing)
     }
 }

@@ -9,16 +9,17 @@ ghost use Rattle.protobuf_parse_text_rules.specs.Statements as spec;
 ghost use Rattle.protobuf_parse_text_rules.specs.Statements.{text_breaches};
 ghost use Rattle.protobuf_parse_text_rules.specs.Views.{told, violation_view};
 
+use crate::bodies::tell_alone;
 use crate::messages::check_tree;
 use crate::rule::TextRule;
-use crate::tokens::{behind_statement, first_is, first_place, from, from_text};
+use crate::tokens::{behind_first, behind_statement, first_is, first_place, from, from_text};
 use crate::violation::{TextViolation, tell, tell_if};
-use protobuf_parse_lexer::{ParserError, Token, tokenize};
+use protobuf_parse_lexer::{ParserError, Place, Token, tokenize};
 use protobuf_parse_syntax::FileTree;
 use std::alloc::{AllocError, Global};
 
-/// Every violation in a text that has this tree: first each `+` before a number, and then the
-/// others in the order of the text. Of a text that is no list of tokens, and so has no tree, it
+/// Every violation in a text that has this tree: first that it begins with no `syntax` statement,
+/// then each `+` before a number, and then the others in the order of the text. Of a text that is no list of tokens, and so has no tree, it
 /// tells nothing. The one error is that memory is short.
 pub fn text_violations(
     alloc: Global,
@@ -46,11 +47,27 @@ fn violations_among(
         (λ v. told v ≡ text_breaches (map lexeme tokens.now) (file_syntax tree.now)) }
 {
     let mut found = Vec::new(alloc);
+    tell_version(alloc, &mut found, tokens)?;
     tell_plus(alloc, &mut found, tokens)?;
     let mut seen = Vec::new(alloc);
     check_tree(alloc, &mut seen, tree)?;
     tell_broken(alloc, &mut found, tokens, &seen)?;
     Ok(found)
+}
+
+/// Tells that they begin with no `syntax` statement.
+fn tell_version(
+    alloc: Global,
+    found: &mut Vec<TextViolation>,
+    tokens: &[Token<'_>],
+) -> Result<(), AllocError>
+    ensures { OnOk result (told found.new ≡ told found.old
+        ++ spec.version_breaches (map lexeme tokens.now)) }
+{
+    let missing = !first_is(tokens, "syntax");
+    let place = first_place(tokens, Place { line: 1, col: 1 });
+    let rule = TextRule::SyntaxMissing;
+    tell_if(alloc, found, missing, rule, place, "")
 }
 
 /// Tells each `+`.
@@ -106,6 +123,7 @@ fn asks_tokens(rule: TextRule) -> bool
         TextRule::ExtendWithoutFields
             | TextRule::StatementWithoutSemicolon
             | TextRule::MethodWithoutRpc
+            | TextRule::SemicolonAlone
     )
 }
 
@@ -140,6 +158,10 @@ fn tell_by(
         TextRule::MethodWithoutRpc => {
             let begins_so = first_is(tokens, "stream");
             tell_if(alloc, found, begins_so, *rule, *place, name)
+        }
+        TextRule::SemicolonAlone => {
+            let body = behind_first(from_text(tokens, "{"));
+            tell_alone(alloc, found, name, body)
         }
         _ => tell(alloc, found, *rule, *place, name),
     }

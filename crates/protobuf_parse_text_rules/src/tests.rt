@@ -88,6 +88,39 @@ fn tells_statements(rt: HostRuntime) -> Result<(), Fail> {
 }
 
 #[test]
+fn tells_that_no_version_is_told(rt: HostRuntime) -> Result<(), Fail> {
+    let want = "T19: no `syntax` statement begins the file, so it is proto2";
+    let text = format!(in rt.alloc(); "1:1: {want}\n")?;
+    assert_eq!(rt; told(rt.alloc(), "")?.as_str(), text.as_str());
+    let text = format!(in rt.alloc(); "2:1: {want}\n")?;
+    assert_eq!(rt;
+        told(rt.alloc(), "// A\nmessage A {}\n")?.as_str(),
+        text.as_str()
+    );
+    Ok(())
+}
+
+#[test]
+fn tells_semicolons_alone(rt: HostRuntime) -> Result<(), Fail> {
+    let text = "syntax = \"proto2\";\nmessage M {\n  oneof o {\n    ;\n    int32 a = 1;;\n\
+        option (x) = { a: { b: 1; } };\n    group G = 2 { ; optional int32 b = 1;; };\n  }\n  ;\n\
+        oneof p { int32 c = 3 [(x) = { a: 1; }]; }\n  extend M { ; }\n}\n\
+        extend a.M {\n  optional int32 d = 5;\n  ;\n}\n;\n";
+    let alone = "T12: a `;` cannot stand alone in a oneof or in an `extend`";
+    let mut want = String::new(rt.alloc());
+    write!(
+        want,
+        "4:5: {alone}: o\n5:17: {alone}: o\n7:45: {alone}: o\n11:14: {alone}: M\n"
+    )?;
+    write!(
+        want,
+        "11:16: T9: an `extend` must have a field: M\n15:3: {alone}: a.M\n"
+    )?;
+    assert_eq!(rt; told(rt.alloc(), text)?.as_str(), want.as_str());
+    Ok(())
+}
+
+#[test]
 fn tells_nothing_of_what_is_no_text(rt: HostRuntime) -> Result<(), Fail> {
     let tree = match parse_file(rt.alloc(), "message A { int32 a = 1; }") {
         Ok(tree) => tree,

@@ -61,7 +61,7 @@ pub fn from_text<'t, 'a>(tokens: &'t [Token<'a>], text: &str) -> &'t [Token<'a>]
 }
 
 /// Without the first.
-fn behind_first<'t, 'a>(tokens: &'t [Token<'a>]) -> &'t [Token<'a>]
+pub fn behind_first<'t, 'a>(tokens: &'t [Token<'a>]) -> &'t [Token<'a>]
     ensures { map lexeme result.now ≡ drop 1 (map lexeme tokens.now) }
 {
     match tokens {
