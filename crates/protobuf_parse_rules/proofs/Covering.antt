@@ -29,7 +29,7 @@ pub counted_more : {X : Type 0} (p : X → Bool) (xs : List X) (x : X)
     → count_by p (xs ++ x ∷ []) ≡ count_by p xs + bit (p x)
 counted_more p xs x = sum_by_push (λ y. bit (p y)) xs x
 
-counted_first : {X : Type 0} (p : X → Bool) (x : X) (xs : List X)
+pub counted_first : {X : Type 0} (p : X → Bool) (x : X) (xs : List X)
     → count_by p (x ∷ xs) ≡ bit (p x) + count_by p xs
 counted_first p x xs = sum_by-cons (λ y. bit (p y)) x xs
 

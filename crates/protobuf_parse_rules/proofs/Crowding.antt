@@ -1,7 +1,7 @@
--- Keys of which none of those that share a slot stands twice.
+-- Keys that stand twice stand among those that share a slot.
 use Rattle.std.proofs.Common.{◌≡◌, ◌≢◌, ℕ, ◌+◌, ◌*◌, ◌≤◌, ◌<◌, ◌%◌, Bool, true, false, cond, List}
 use Rattle.std.proofs.Common.{[], ◌∷◌, ◌++◌, refl, sym, ap, subst, ◌∙◌, append-nil, arith, length}
-use Rattle.std.proofs.Common.{inl, inr, get_or, set, map, take, drop, length-set}
+use Rattle.std.proofs.Common.{◌||◌, inl, inr, get_or, set, map, take, drop, length-set}
 use Rattle.std.proofs.Math.Dec.{eqb}
 use Rattle.std.proofs.Math.Nat.{div-lt_iff_lt-mul, mul-lt-mul_of_pos_right, mul_comm}
 use Rattle.std.specs.Prelude.{◌/◌, ◌^◌, min, nat_lt, slice_index_or}
@@ -10,8 +10,9 @@ use Rattle.std.proofs.lemmas.Bool.{cases_Bool, eqb-true}
 use Rattle.std.proofs.lemmas.Bool.Decides.{nat_tests}
 use Rattle.std.proofs.lemmas.List.{map-append, get_or-set_same, get_or-set_other, drop_all}
 use Rattle.std.proofs.lemmas.List.{take_all}
-use Rattle.protobuf_parse_rules.specs.Crowds.{Counts, how_many, is_crowded, one_if, slot_among}
-use Rattle.protobuf_parse_rules.specs.Crowds.{slots_of}
+use Rattle.protobuf_parse_rules.specs.Crowds.{Counts, HasTwice, how_many, is_crowded, one_if}
+use Rattle.protobuf_parse_rules.specs.Crowds.{slot_among, slots_of}
+use Rattle.protobuf_parse_rules.specs.Wanted.{has_key}
 use Rattle.protobuf_parse_model.proofs.Ascending.{eqb_comm}
 use Rattle.protobuf_parse_rules.proofs.Lone.{eqb_same, few, how_many-append}
 
@@ -39,7 +40,7 @@ alone x xs h =
 rest_few : (k x : ℕ) (xs : List ℕ) → how_many k (x ∷ xs) ≤ 1 → how_many k xs ≤ 1
 rest_few k x xs h = omega (arith, h)
 
-distinct : (xs : List ℕ) → ((k : ℕ) → how_many k xs ≤ 1) → IsDistinct eqb xs
+pub distinct : (xs : List ℕ) → ((k : ℕ) → how_many k xs ≤ 1) → IsDistinct eqb xs
 unfolding IsDistinct
 distinct [] few = tt
 distinct (x ∷ xs) few =
@@ -101,24 +102,68 @@ slot_within spread n k some =
 abbrev slot_in : ℕ → List ℕ → ℕ → ℕ
 slot_in spread counts = slot_among spread (length counts)
 
--- Where no number that shares its slot stands twice, none does.
-pub crowds_apart : (spread : ℕ) (keys counts : List ℕ) → 0 < length counts
-    → Counts spread keys counts
-    → IsDistinct eqb (filter (is_crowded spread counts) keys) → IsDistinct eqb keys
-crowds_apart spread keys counts some counted apart =
-    distinct keys (λ k. at k (is_crowded spread counts k) refl)
+-- A number that stands twice stands as often among those that share their slots.
+pub crowd_has : (spread : ℕ) (keys counts : List ℕ) → 0 < length counts
+    → Counts spread keys counts → HasTwice keys (filter (is_crowded spread counts) keys)
+crowd_has spread keys counts some counted k twice = at (is_crowded spread counts k) refl
   where
-    at : (k : ℕ) (b : Bool) → is_crowded spread counts k ≡ b → how_many k keys ≤ 1
-    at k true crowded =
-        let same = kept (is_crowded spread counts) k keys crowded in
-        let once = few (filter (is_crowded spread counts) keys) apart k in
-        omega (arith, same, once)
-    at k false lone =
-        few_of (how_many k keys) (how_many (slot_in spread counts k)
+    at : (b : Bool) → is_crowded spread counts k ≡ b
+        → how_many k keys ≤ how_many k (filter (is_crowded spread counts) keys)
+    at true crowded =
+        let same = kept (is_crowded spread counts) k keys crowded in omega (arith, same)
+    at false lone =
+        let once = few_of (how_many k keys) (how_many (slot_in spread counts k)
         (slots_of spread (length counts) keys))
         (slice_index_or counts (slot_in spread counts k) 0) (by_slot (slot_in spread counts) k keys)
         (counted (slot_in spread counts k) (slot_within spread (length counts) k some))
-        (least (slice_index_or counts (slot_in spread counts k) 0) lone)
+        (least (slice_index_or counts (slot_in spread counts k) 0) lone) in
+        absurd (omega (arith, once, twice))
+
+pub has_all : (keys found : List ℕ) → found ≡ keys → HasTwice keys found
+has_all keys found same k twice =
+    let as_often : how_many k found ≡ how_many k keys = ap (how_many k) same in
+    omega (arith, as_often)
+
+pub has_more : (keys mid found : List ℕ) → HasTwice keys mid → HasTwice mid found
+    → HasTwice keys found
+has_more keys mid found p q k twice =
+    let one = p k twice in
+    let two = q k (omega (arith, twice, one)) in
+    omega (arith, one, two)
+
+-- none does, where those are distinct
+pub has_none : (keys found none : List ℕ) → HasTwice keys found → IsDistinct eqb found
+    → HasTwice keys none
+has_none keys found none p apart k twice =
+    let one = p k twice in
+    let once = few found apart k in
+    absurd (omega (arith, twice, one, once))
+
+pub none_there : (k : ℕ) (xs : List ℕ) → has_key xs k ≡ false → how_many k xs ≡ 0
+none_there k [] e = refl
+none_there k (x ∷ xs) e = at (eqb k x) refl e (none_there k xs)
+  where
+    at : (b : Bool) → eqb k x ≡ b → (b || has_key xs k) ≡ false
+        → (has_key xs k ≡ false → how_many k xs ≡ 0) → how_many k (x ∷ xs) ≡ 0
+    at true same h more = absurd cc
+    at false other h more =
+        let none : one_if (eqb x k) ≡ 0 = ap one_if (eqb_comm x k ∙ other) in
+        omega (arith, none, more h)
+
+most : (n : ℕ) → nat_lt 1 n ≡ true → 2 ≤ n
+most n e = grind (arith, nat_tests)
+
+-- what isn't found stands once at most
+pub once_of : (keys found : List ℕ) → HasTwice keys found → (k : ℕ) → has_key found k ≡ false
+    → how_many k keys ≤ 1
+once_of keys found p k e = at (nat_lt 1 (how_many k keys)) refl
+  where
+    at : (b : Bool) → nat_lt 1 (how_many k keys) ≡ b → how_many k keys ≤ 1
+    at false few_there = least (how_many k keys) few_there
+    at true many =
+        let one = p k (most (how_many k keys) many) in
+        let none = none_there k found e in
+        absurd (omega (arith, one, none, most (how_many k keys) many))
 
 -- ---- one number more
 

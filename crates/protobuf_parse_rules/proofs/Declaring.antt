@@ -1,17 +1,17 @@
 -- What the first claims of full names say of who has them.
 use Rattle.std.proofs.Common.{◌≡◌, pos, Bool, true, false, cond, List, [], ◌∷◌, ◌++◌, refl, ap}
-use Rattle.std.proofs.Common.{◌∙◌, map, subst, Option, Some, None}
+use Rattle.std.proofs.Common.{◌∙◌, map, Option, Some, None}
 use Rattle.std.specs.Prelude.{◌&&◌, option_map, find, bytes_eq, flat_map}
 use Rattle.protobuf_parse_model.specs.Descriptors.{Text}
 use Rattle.protobuf_parse_rules.specs.Claims.{Claim, Thing, Who, conflicts, first_claim}
 use Rattle.protobuf_parse_rules.specs.ClaimsKept.{Knows}
 use Rattle.protobuf_parse_rules.specs.ClaimsKept.{holder_view}
 use Rattle.protobuf_parse_rules.specs.Known.{Finds}
-use Rattle.protobuf_parse_rules.specs.KnownFiles.{Tells, known_file, path_named}
-use Rattle.protobuf_parse_rules.specs.Names.{Named, name_claim, name_rule, names_at, names_in_use}
+use Rattle.protobuf_parse_rules.specs.KnownFiles.{Surroundings, Tells, known_file, path_named}
+use Rattle.protobuf_parse_rules.specs.Names.{Named, name_claim, name_rule}
 use Rattle.protobuf_parse_rules.specs.Bodies.{BodyParts}
 use Rattle.protobuf_parse_rules.specs.Rules.{Breach}
-use Rattle.protobuf_parse_rules.specs.Runtimes.{declaring_file, file_at, runtime_breaches}
+use Rattle.protobuf_parse_rules.specs.Runtimes.{declaring_file, file_at, runtimes_among}
 use Rattle.protobuf_parse_rules.specs.declared.claims.Holder.{Holder}
 use Rattle.protobuf_parse_rules.specs.declared.runtimes.Declared.{Declared}
 use Rattle.protobuf_parse_rules.proofs.Claiming.{told_more, who_of}
@@ -51,29 +51,27 @@ holders_are : (h : Option Holder)
 holders_are None = refl
 holders_are (Some h) = refl
 
-pub file_found : (all : List BodyParts) (name : Text) (found : Option Holder)
+pub file_found : (named : List Named) (name : Text) (found : Option Holder)
     → option_map holder_view found
-    ≡ option_map who_of (first_claim (map name_claim (flat_map names_at all)) (name_thing name))
-    → option_map file_of_holder found ≡ declaring_file all name
-file_found all name found is =
+    ≡ option_map who_of (first_claim (map name_claim named) (name_thing name))
+    → option_map file_of_holder found ≡ declaring_file named name
+file_found named name found is =
     holders_are found
     ∙ ap (option_map file_of_who) is
     ∙ ap (λ (c : Option Claim). option_map file_of_who (option_map who_of c))
-    (first_is (flat_map names_at all) name)
-    ∙ files_are (find (λ (n : Named). bytes_eq n.name name) (flat_map names_at all))
+    (first_is named name)
+    ∙ files_are (find (λ (n : Named). bytes_eq n.name name) named)
 
 -- names, and then runtimes
-pub declared_told : (old mid new : List Breach) (all : List BodyParts) (named : List Named)
-    (d : Declared) → named ≡ flat_map names_at all → Knows d.first (map name_claim named)
+pub declared_told : (old mid new : List Breach) (all ps : List BodyParts) (named : List Named)
+    (d : Declared) → Knows d.first (map name_claim named)
     → Finds known_file path_named d.files (flat_map file_at all)
     → mid ≡ old ++ conflicts name_rule [] (map name_claim named)
-    → ((ps : List BodyParts) → Tells d ps → new ≡ mid ++ flat_map (runtime_breaches ps) all)
-    → new ≡ old ++ (names_in_use all ++ flat_map (runtime_breaches all) all)
-declared_told old mid new all named d is knows files names runtimes =
-    let tells : Tells d all = record {
-      names = subst (λ (ns : List Named). Knows d.first (map name_claim ns)) is knows;
-      files = files;
-    } in
-    told_more old mid new (names_in_use all) (flat_map (runtime_breaches all) all)
-    (names ∙ ap (λ (ns : List Named). old ++ conflicts name_rule [] (map name_claim ns)) is)
-    (runtimes all tells)
+    → ((s : Surroundings) → Tells d s → new ≡ mid ++ flat_map (runtimes_among s.named s.all) ps)
+    → new ≡ old ++ (conflicts name_rule [] (map name_claim named)
+    ++ flat_map (runtimes_among named all) ps)
+declared_told old mid new all ps named d knows files names runtimes =
+    let s : Surroundings = record { named = named; all = all } in
+    let tells : Tells d s = record { names = knows; files = files } in
+    told_more old mid new (conflicts name_rule [] (map name_claim named))
+    (flat_map (runtimes_among named all) ps) names (runtimes s tells)

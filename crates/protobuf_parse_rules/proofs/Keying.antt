@@ -12,7 +12,7 @@ use Rattle.protobuf_parse_model.specs.ByHash.{hash_of}
 use Rattle.protobuf_parse_model.specs.Descriptors.{Text, FieldDescriptor}
 use Rattle.protobuf_parse_rules.specs.Claims.{Claim, Rules, Thing, conflict, conflicts}
 use Rattle.protobuf_parse_rules.specs.Claims.{first_claim, same_thing}
-use Rattle.protobuf_parse_rules.specs.Keys.{claim_key, extension_keys, number_key, text_key}
+use Rattle.protobuf_parse_rules.specs.Keys.{claim_key, extension_keys, field_key, text_key}
 use Rattle.protobuf_parse_rules.specs.Keys.{thing_key}
 use Rattle.protobuf_parse_rules.specs.Numbers.{claim_of, claims, extension_claim, extension_claims}
 use Rattle.protobuf_parse_rules.specs.Numbers.{field_claims}
@@ -47,7 +47,7 @@ module _ (key : Claim → ℕ) (alike : (c d : Claim) → c.thing ≡ d.thing �
       (IsDistinct-head eqb (key b) (map key (bs ++ c ∷ cs)) h)))
       ∙ unclaimed bs cs c (IsDistinct-tail eqb (key b) (map key (bs ++ c ∷ cs)) h)
 
-  none_after : (rules : Rules) (before cs : List Claim)
+  pub none_after : (rules : Rules) (before cs : List Claim)
       → IsDistinct eqb (map key (before ++ cs)) → conflicts rules before cs ≡ []
   none_after rules before [] h = refl
   none_after rules before (c ∷ cs) h =
@@ -78,12 +78,8 @@ module _ (key : Claim → ℕ) (alike : (c d : Claim) → c.thing ≡ d.thing �
       (sym (keys_apart rules (map claim xs) keys (is ∙ all_keys claim xs) apart))
 
 -- the key of a thing by its number and its name
-by_thing : (c d : Claim) → c.thing ≡ d.thing → claim_key c ≡ claim_key d
+pub by_thing : (c d : Claim) → c.thing ≡ d.thing → claim_key c ≡ claim_key d
 by_thing c d e = ap thing_key e
-
-pub no_conflict : (rules : Rules) (cs : List Claim) (keys : List ℕ)
-    → keys ≡ map claim_key cs → IsDistinct eqb keys → conflicts rules [] cs ≡ []
-no_conflict rules cs keys is apart = keys_apart claim_key by_thing rules cs keys is apart
 
 fused : {X : Type 0} (claim : X → Claim) (xs : List X)
     → map (λ (x : X). claim_key (claim x)) xs ≡ map claim_key (map claim xs)
@@ -133,7 +129,7 @@ extension_keys_are file scope (e ∷ es) =
     ∙ sym (map-append claim_key (extension_claim file scope e) (extension_claims file scope es))
 
 pub number_keys : (p : BodyParts) (keys mid new : List ℕ)
-    → mid ≡ keys ++ map (number_key p.scope) (fields_of p.content)
+    → mid ≡ keys ++ map (field_key (text_key p.scope)) (fields_of p.content)
     → new ≡ mid ++ flat_map extension_keys (extensions_of p.content)
     → new ≡ keys ++ map claim_key (claims p)
 number_keys p keys mid new fields extensions =
@@ -141,7 +137,7 @@ number_keys p keys mid new fields extensions =
     let es = extensions_of p.content in
     extensions
     ∙ ap (λ ks. ks ++ flat_map extension_keys es) fields
-    ∙ append_assoc keys (map (number_key p.scope) fs) (flat_map extension_keys es)
+    ∙ append_assoc keys (map (field_key (text_key p.scope)) fs) (flat_map extension_keys es)
     ∙ ap (λ ks. keys ++ (ks ++ flat_map extension_keys es))
     (fused (claim_of p.file p.scope p.scope) fs)
     ∙ ap (λ ks. keys ++ (map claim_key (field_claims p.file p.scope fs) ++ ks))

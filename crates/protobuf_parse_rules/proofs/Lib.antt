@@ -15,6 +15,9 @@ pub mod Spelling
 pub mod Keyed
 pub mod Lone
 pub mod Crowding
+pub mod Parting
+pub mod WantedNames
+pub mod WantedNumbers
 pub mod Lite
 pub mod Passing
 pub mod Allowing
@@ -23,6 +26,7 @@ pub mod Apart
 pub mod Fewer
 pub mod Rising
 pub mod Covering
+pub mod Overlapping
 pub mod Searching
 pub mod NumberReading
 pub mod NoneInUse

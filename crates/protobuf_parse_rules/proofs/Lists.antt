@@ -81,3 +81,19 @@ any_found p f (y ∷ ys) (suc i) x lt is e =
 pub any_mapped : {X Y : Type 0} (f : X → Y) (xs : List X) → are_any (map f xs) ≡ are_any xs
 any_mapped f [] = refl
 any_mapped f (x ∷ xs) = refl
+
+-- the same of a list that isn't mapped
+pub one_passes : {X : Type 0} (p : X → Bool) (xs : List X) (i : ℕ) (x : X) → i < length xs
+    → x ≡ get_or xs i x → p x ≡ true → true ≡ list_any p xs
+one_passes p [] i x lt is e = absurd (omega arith)
+one_passes p (y ∷ ys) zero x lt is e = ap (λ b. b || list_any p ys) (sym e ∙ ap p is)
+one_passes p (y ∷ ys) (suc i) x lt is e =
+    or_true (p y) ∙ ap (λ b. p y || b) (one_passes p ys i x (omega arith) is e)
+
+-- the same of one that has no name
+pub any_there : {X Y : Type 0} (p : Y → Bool) (f : X → Y) (xs : List X) (i : ℕ) (d : X)
+    → i < length xs → p (f (get_or xs i d)) ≡ true → true ≡ list_any p (map f xs)
+any_there p f [] i d lt e = absurd (omega arith)
+any_there p f (y ∷ ys) zero d lt e = ap (λ b. b || list_any p (map f ys)) (sym e)
+any_there p f (y ∷ ys) (suc i) d lt e =
+    or_true (p (f y)) ∙ ap (λ b. p (f y) || b) (any_there p f ys i d (omega arith) e)

@@ -9,6 +9,7 @@ use Rattle.protobuf_parse_model.specs.Descriptors.{Text}
 use Rattle.protobuf_parse_rules.specs.KnownFiles.{is_lite_body}
 use Rattle.protobuf_parse_rules.specs.Bodies.{Content, BodyParts, extensions_of, of_file}
 use Rattle.protobuf_parse_rules.specs.Bodies.{of_message}
+use Rattle.protobuf_parse_rules.specs.Names.{names_at}
 use Rattle.protobuf_parse_rules.specs.Rules.{Site, breaches_at, broken_by}
 use Rattle.protobuf_parse_rules.specs.Runtimes.{NamedFile, file_at, file_in, has_generic_services}
 use Rattle.protobuf_parse_rules.specs.Runtimes.{is_lite, is_lite_path, lite_extension, lite_file}
@@ -72,7 +73,8 @@ module _ (all : List BodyParts) (none : (path : Text) → is_lite_path all path 
 
   no_runtime : (p : BodyParts) → is_lite_body p ≡ false → runtime_breaches all p ≡ []
   no_runtime p e =
-      ap (λ b. cond b (flat_map (lite_extension all p.file p.scope) (extensions_of p.content)) []
+      ap (λ b. cond b (flat_map (lite_extension (flat_map names_at all) all p.file p.scope)
+      (extensions_of p.content)) []
       ++ lite_file all p.file p.scope p.content) (none p.file)
       ∙ no_file p.file p.scope p.content e
 

@@ -19,14 +19,14 @@ use Rattle.std.proofs.lemmas.Map.Keys.{IsDistinct-head, IsDistinct-tail}
 use Rattle.std.proofs.lemmas.Map.Views.{Contains-from_any, list_any-from_Contains}
 use Rattle.protobuf_parse_rules.specs.Claims.{Thing, conflict, conflicts, first_claim}
 use Rattle.protobuf_parse_rules.specs.Claims.{same_thing}
-use Rattle.protobuf_parse_rules.specs.Crowds.{how_many}
+use Rattle.protobuf_parse_rules.specs.Crowds.{how_many, one_if}
 use Rattle.protobuf_parse_rules.specs.Keys.{is_package, keys_at, name_key, text_key}
 use Rattle.protobuf_parse_rules.specs.Names.{Named, name_claim, name_rule, name_taken}
 use Rattle.protobuf_parse_rules.specs.Rules.{breaches_at}
+use Rattle.protobuf_parse_rules.specs.Wanted.{IsLone, has_key}
 use Rattle.protobuf_parse_rules.specs.declared.kind.NamedKind.{NamedKind}
 use Rattle.protobuf_parse_rules.specs.declared.kind.NamedKind.TheVariants as kind
 use Rattle.protobuf_parse_rules.proofs.Claiming.{site_of_claim, thing_is}
-use Rattle.protobuf_parse_rules.proofs.Counting.{one_if}
 use Rattle.protobuf_parse_model.proofs.Ascending.{eqb_comm}
 
 -- ---- how often a number stands in a list
@@ -57,7 +57,7 @@ few (x ∷ xs) h k = at (eqb x k) refl (few xs (IsDistinct-tail eqb x xs h) k)
         let none : one_if (eqb x k) ≡ 0 = ap one_if e in
         omega (arith, none, more)
 
-some_of : (k : ℕ) (xs : List ℕ) → list_any (eqb k) xs ≡ true → 1 ≤ how_many k xs
+pub some_of : (k : ℕ) (xs : List ℕ) → list_any (eqb k) xs ≡ true → 1 ≤ how_many k xs
 some_of k [] h = absurd cc
 some_of k (x ∷ xs) h = at (eqb k x) refl h (some_of k xs)
   where
@@ -105,15 +105,15 @@ all_more : {X : Type 0} (P : X → Type 0) (xs : List X) (x : X) → AllByRecurs
 all_more P [] x h there = (there, tt)
 all_more P (y ∷ ys) x h there = (h.0, all_more P ys x h.1 there)
 
-module _ (packages : List ℕ) where
+module _ (has : ℕ → Bool) where
   -- a package's key is one of these
   abbrev IsKept : Named → Type 0
-  IsKept n = is_package n.kind ≡ true → list_any (eqb (name_key n)) packages ≡ true
+  IsKept n = is_package n.kind ≡ true → has (name_key n) ≡ true
 
   -- two things of one name are packages
   one_name : (m n : Named) → name_key m ≡ name_key n
       → how_many (name_key n) (keys_at false m) + how_many (name_key n) (keys_at false n)
-      + how_many (name_key n) packages ≤ 1
+      + one_if (has (name_key n)) ≤ 1
       → IsKept m → IsKept n → name_taken m.file n.kind m.kind ≡ None
   one_name m n same few m_kept n_kept = at (is_package m.kind) (is_package n.kind) refl refl
     where
@@ -124,12 +124,12 @@ module _ (packages : List ℕ) where
           ∙ ap (name_taken m.file kind.Package) (kind_is m.kind p)
       at true false p q =
           let one = own_key n (name_key n) q refl in
-          let there = some_of (name_key n) packages
-          (subst (λ k. list_any (eqb k) packages ≡ true) same (m_kept p)) in
+          let there : one_if (has (name_key n)) ≡ 1 =
+          ap one_if (ap has (sym same) ∙ m_kept p) in
           absurd (omega (arith, one, there, few))
       at false true p q =
           let one = own_key m (name_key n) p same in
-          let there = some_of (name_key n) packages (n_kept q) in
+          let there : one_if (has (name_key n)) ≡ 1 = ap one_if (n_kept q) in
           absurd (omega (arith, one, there, few))
       at false false p q =
           let one = own_key m (name_key n) p same in
@@ -138,7 +138,7 @@ module _ (packages : List ℕ) where
 
   no_other : (before : List Named) (n : Named)
       → ((k : ℕ) → how_many k (own before) + how_many k (keys_at false n)
-      + how_many k packages ≤ 1)
+      + one_if (has k) ≤ 1)
       → AllByRecursion IsKept before → IsKept n
       → conflict name_rule (name_claim n)
       (first_claim (map name_claim before) (name_claim n).thing) ≡ []
@@ -152,14 +152,14 @@ module _ (packages : List ℕ) where
       whole k = how_many-append k (keys_at false m) (own ms)
 
       fewer : (k : ℕ) → how_many k (own (m ∷ ms)) + how_many k (keys_at false n)
-          + how_many k packages ≤ 1
-          → how_many k (own ms) + how_many k (keys_at false n) + how_many k packages ≤ 1
+          + one_if (has k) ≤ 1
+          → how_many k (own ms) + how_many k (keys_at false n) + one_if (has k) ≤ 1
       fewer k h = omega (arith, whole k, h)
 
       nearer : (k : ℕ) → how_many k (own (m ∷ ms)) + how_many k (keys_at false n)
-          + how_many k packages ≤ 1
+          + one_if (has k) ≤ 1
           → how_many k (keys_at false m) + how_many k (keys_at false n)
-          + how_many k packages ≤ 1
+          + one_if (has k) ≤ 1
       nearer k h = omega (arith, whole k, h)
 
       at : (b : Bool) → same_thing (name_claim m).thing (name_claim n).thing ≡ b
@@ -174,7 +174,7 @@ module _ (packages : List ℕ) where
       at false e more = more
 
   no_more : (before ns : List Named)
-      → ((k : ℕ) → how_many k (own before) + how_many k (own ns) + how_many k packages ≤ 1)
+      → ((k : ℕ) → how_many k (own before) + how_many k (own ns) + one_if (has k) ≤ 1)
       → AllByRecursion IsKept before → AllByRecursion IsKept ns
       → conflicts name_rule (map name_claim before) (map name_claim ns) ≡ []
   no_more before [] few kept more = refl
@@ -199,19 +199,18 @@ module _ (packages : List ℕ) where
           ∙ ap (λ xs. how_many k (own before) + how_many k xs) (append-nil (keys_at false n))
 
       first : (k : ℕ) → how_many k (own before) + how_many k (own (n ∷ ns))
-          + how_many k packages ≤ 1
-          → how_many k (own before) + how_many k (keys_at false n) + how_many k packages ≤ 1
+          + one_if (has k) ≤ 1
+          → how_many k (own before) + how_many k (keys_at false n) + one_if (has k) ≤ 1
       first k h = omega (arith, whole k, h)
 
       next : (k : ℕ) → how_many k (own before) + how_many k (own (n ∷ ns))
-          + how_many k packages ≤ 1
+          + one_if (has k) ≤ 1
           → how_many k (own (before ++ n ∷ [])) + how_many k (own ns)
-          + how_many k packages ≤ 1
+          + one_if (has k) ≤ 1
       next k h = omega (arith, whole k, longer k, h)
 
   kept_all : (ns : List Named)
-      → ((k : ℕ) → list_any (eqb k) (flat_map (keys_at true) ns) ≡ true
-      → list_any (eqb k) packages ≡ true)
+      → ((k : ℕ) → has_key (flat_map (keys_at true) ns) k ≡ true → has k ≡ true)
       → AllByRecursion IsKept ns
   kept_all [] h = tt
   kept_all (n ∷ ns) h = (
@@ -230,17 +229,22 @@ module _ (packages : List ℕ) where
           ap (list_any (eqb (name_key n))) there
           ∙ ap (λ b. b || false) (eqb_same (name_key n) (name_key n) refl)
 
-  -- Where the keys of all others differ from these and among themselves, no name is in use.
-  pub names_apart : (ns : List Named) → IsDistinct eqb (own ns ++ packages)
-      → ((k : ℕ) → list_any (eqb k) (flat_map (keys_at true) ns) ≡ true
-      → list_any (eqb k) packages ≡ true)
-      → conflicts name_rule [] (map name_claim ns) ≡ []
-  names_apart ns apart kept =
-      no_more [] ns (λ k. small k (few (own ns ++ packages) apart k)) tt (kept_all ns kept)
-    where
-      small : (k : ℕ) → how_many k (own ns ++ packages) ≤ 1
-          → 0 + how_many k (own ns) + how_many k packages ≤ 1
-      small k h = omega (arith, how_many-append k (own ns) packages, h)
+-- Where at most one has each key, no name is in use.
+pub lone_names : (ns : List Named) → ((k : ℕ) → IsLone ns k)
+    → conflicts name_rule [] (map name_claim ns) ≡ []
+lone_names ns lone =
+    let has : ℕ → Bool = has_key (flat_map (keys_at true) ns) in
+    no_more has [] ns (λ k. small k (lone k)) tt (kept_all has ns (λ k e. e))
+  where
+    small : (k : ℕ) → IsLone ns k
+        → 0 + how_many k (own ns) + one_if (has_key (flat_map (keys_at true) ns) k) ≤ 1
+    small k h = omega (arith, h)
+
+-- ---- where keys are counted
+
+some_once : (has : Bool) (n : ℕ) → (has ≡ true → 1 ≤ n) → one_if has ≤ n
+some_once true n h = h refl
+some_once false n h = omega arith
 
 -- A number of a list stands in what is left of it once it is sorted and no number follows itself.
 pub kept_once : (keys sorted once : List ℕ) → IsPermutation keys sorted
@@ -252,3 +256,12 @@ kept_once keys sorted once moved filtered k there =
     list_any-from_Contains nat_eq_equiv k once
     (subst (λ xs. Contains xs k) (sym (dedup_is eqb sorted once filtered))
     (Contains-dedup_nat sorted k found))
+
+-- Where few others and packages have a key, at most one name has it.
+pub lone_of : (ns : List Named) (once : List ℕ) (k : ℕ)
+    → how_many k (flat_map (keys_at false) ns ++ once) ≤ 1
+    → (has_key (flat_map (keys_at true) ns) k ≡ true → has_key once k ≡ true) → IsLone ns k
+lone_of ns once k h kept =
+    let packages = some_once (has_key (flat_map (keys_at true) ns) k) (how_many k once)
+    (λ e. some_of k once (kept e)) in
+    omega (arith, h, packages, how_many-append k (flat_map (keys_at false) ns) once)

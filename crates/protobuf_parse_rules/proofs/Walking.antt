@@ -1,5 +1,5 @@
 -- All bodies.
-use Rattle.std.proofs.Common.{◌≡◌, List, [], ◌∷◌, ◌++◌, refl, sym, ap, ◌∙◌, append_assoc, subst}
+use Rattle.std.proofs.Common.{◌≡◌, ℕ, List, [], ◌∷◌, ◌++◌, refl, sym, ap, ◌∙◌, append_assoc, subst}
 use Rattle.std.proofs.Common.{append-nil}
 use Rattle.std.specs.List.{flat_map}
 use Rattle.std.specs.BTreeMap.{BTreeMap}
@@ -10,27 +10,31 @@ use Rattle.protobuf_parse_rules.specs.Claims.{Claim, conflicts}
 use Rattle.protobuf_parse_rules.specs.ClaimsKept.{Claims, Key, Knows}
 use Rattle.protobuf_parse_rules.specs.Numbers.{claims, number_rule}
 use Rattle.protobuf_parse_rules.specs.Rules.{breaches_told}
-use Rattle.protobuf_parse_rules.specs.Violations.{breaches_after, breaches_of_body}
-use Rattle.protobuf_parse_rules.specs.ClaimsKept.{Checks}
+use Rattle.protobuf_parse_rules.specs.Violations.{breaches_after}
+use Rattle.protobuf_parse_rules.specs.ClaimsKept.{Checks, breaches_wanted}
 use Rattle.protobuf_parse_rules.specs.Violations.{breaches_inside}
+use Rattle.protobuf_parse_rules.specs.Wanted.{claims_wanted}
 use Rattle.protobuf_parse_rules.specs.declared.claims.Holder.{Holder}
 use Rattle.protobuf_parse_rules.specs.declared.violation.Violation.{Violation}
 use Rattle.protobuf_parse_rules.proofs.Claiming.{conflicts-append, told_more}
 use Rattle.protobuf_parse_rules.proofs.Counting.{nil_left, nil_right}
 
-pub breaches_after-append : (all : List BodyParts) (before : List Claim) (ps qs : List BodyParts)
-    → breaches_after all before (ps ++ qs)
-    ≡ breaches_after all before ps ++ breaches_after all (before ++ flat_map claims ps) qs
-breaches_after-append all before [] qs =
-    ap (λ b. breaches_after all b qs) (sym (append-nil before))
-breaches_after-append all before (p ∷ ps) qs =
-    ap (λ bs. breaches_of_body all before p ++ bs)
-    (breaches_after-append all (before ++ claims p) ps qs
-    ∙ ap (λ b. breaches_after all (before ++ claims p) ps ++ breaches_after all b qs)
-    (append_assoc before (claims p) (flat_map claims ps)))
-    ∙ sym (append_assoc (breaches_of_body all before p)
-    (breaches_after all (before ++ claims p) ps)
-    (breaches_after all (before ++ flat_map claims (p ∷ ps)) qs))
+breaches_wanted-append : (keys : List ℕ) (all : List BodyParts) (before : List Claim)
+    (ps qs : List BodyParts)
+    → breaches_wanted keys all before (ps ++ qs)
+    ≡ breaches_wanted keys all before ps
+    ++ breaches_wanted keys all (before ++ flat_map (claims_wanted keys) ps) qs
+breaches_wanted-append keys all before [] qs =
+    ap (λ b. breaches_wanted keys all b qs) (sym (append-nil before))
+breaches_wanted-append keys all before (p ∷ ps) qs =
+    let there = claims_wanted keys p in
+    let here = conflicts number_rule before there ++ breaches_inside all p in
+    ap (λ bs. here ++ bs)
+    (breaches_wanted-append keys all (before ++ there) ps qs
+    ∙ ap (λ b. breaches_wanted keys all (before ++ there) ps ++ breaches_wanted keys all b qs)
+    (append_assoc before there (flat_map (claims_wanted keys) ps)))
+    ∙ sym (append_assoc here (breaches_wanted keys all (before ++ there) ps)
+    (breaches_wanted keys all (before ++ flat_map (claims_wanted keys) (p ∷ ps)) qs))
 
 -- Where no number is in use, what is told of bodies is what is wrong in each by itself.
 pub inside_alone : (all : List BodyParts) (before : List Claim) (ps : List BodyParts)
@@ -47,9 +51,9 @@ inside_alone all before (p ∷ ps) e =
     ∙ ap (λ bs. (bs ++ breaches_inside all p) ++ breaches_after all (before ++ claims p) ps)
     (sym (nil_left there behind none))
 
-module _ (all : List BodyParts) where
+module _ (keys : List ℕ) (all : List BodyParts) where
   pub checks_none : (m : BTreeMap Key Holder) (told : Vec Violation)
-      → Checks all m m told told []
+      → Checks keys all m m told told []
   checks_none m told = record {
     at = λ before knows. (
       subst (λ b. Knows m b) (sym (append-nil before)) knows,
@@ -58,30 +62,35 @@ module _ (all : List BodyParts) where
   }
 
   pub checks_more : (a b c : BTreeMap Key Holder) (t u v : Vec Violation) (ps qs : List BodyParts)
-      → Checks all a b t u ps → Checks all b c u v qs → Checks all a c t v (ps ++ qs)
+      → Checks keys all a b t u ps → Checks keys all b c u v qs
+      → Checks keys all a c t v (ps ++ qs)
   checks_more a b c t u v ps qs p q = record {
     at = λ before knows.
         let first = p.at before knows in
-        let second = q.at (before ++ flat_map claims ps) first.0 in (
-          subst (λ b. Knows c b) (append_assoc before (flat_map claims ps) (flat_map claims qs)
-              ∙ ap (λ z. before ++ z) (sym (flat_map-append claims ps qs))) second.0,
+        let second = q.at (before ++ flat_map (claims_wanted keys) ps) first.0 in (
+          subst (λ b. Knows c b) (append_assoc before (flat_map (claims_wanted keys) ps)
+              (flat_map (claims_wanted keys) qs)
+              ∙ ap (λ z. before ++ z) (sym (flat_map-append (claims_wanted keys) ps qs))) second.0,
           told_more (breaches_told t) (breaches_told u) (breaches_told v) _ _ first.1 second.1
-              ∙ ap (λ bs. breaches_told t ++ bs) (sym (breaches_after-append all before ps qs)),
+              ∙ ap (λ bs. breaches_told t ++ bs)
+              (sym (breaches_wanted-append keys all before ps qs)),
         );
   }
 
   -- a body: its numbers, and then what is in it
   pub checks_one : (m n : BTreeMap Key Holder) (t u v : Vec Violation) (p : BodyParts)
-      → Claims number_rule m n t u (claims p)
+      → Claims number_rule m n t u (claims_wanted keys p)
       → breaches_told v ≡ breaches_told u ++ breaches_inside all p
-      → Checks all m n t v (p ∷ [])
+      → Checks keys all m n t v (p ∷ [])
   checks_one m n t u v p there inside = record {
     at = λ before knows.
         let both = there.at before knows in (
-          subst (λ z. Knows n (before ++ z)) (sym (append-nil (claims p))) both.0,
+          subst (λ z. Knows n (before ++ z)) (sym (append-nil (claims_wanted keys p))) both.0,
           told_more (breaches_told t) (breaches_told u) (breaches_told v)
-              (conflicts number_rule before (claims p)) (breaches_inside all p) both.1 inside
+              (conflicts number_rule before (claims_wanted keys p)) (breaches_inside all p) both.1
+              inside
               ∙ ap (λ bs. breaches_told t ++ bs)
-              (sym (append-nil (breaches_of_body all before p))),
+              (sym (append-nil (conflicts number_rule before (claims_wanted keys p)
+              ++ breaches_inside all p))),
         );
   }

@@ -1,7 +1,7 @@
 -- No public clause rests on this file.
 -- How many numbers of a list share a slot.
 use Rattle.std.specs.Prelude.{◌≡◌, ℕ, ◌+◌, ◌*◌, ◌/◌, ◌%◌, ◌^◌, ◌<◌, Bool, cond, List, [], ◌∷◌, map}
-use Rattle.std.specs.Prelude.{length, min, nat_lt, slice_index_or, nat_eq}
+use Rattle.std.specs.Prelude.{length, min, nat_lt, slice_index_or, nat_eq, ◌≤◌}
 
 abbrev pub one_if : Bool → ℕ
 one_if b = cond b 1 0
@@ -27,3 +27,7 @@ Counts spread keys counts = (p : ℕ) → p < length counts
 abbrev pub is_crowded : ℕ → List ℕ → ℕ → Bool
 is_crowded spread counts k =
     nat_lt 1 (slice_index_or counts (slot_among spread (length counts) k) 0)
+
+-- What stands twice in the one list stands as often in the other.
+abbrev pub HasTwice : (keys found : List ℕ) → Type 0
+HasTwice keys found = (k : ℕ) → 2 ≤ how_many k keys → how_many k keys ≤ how_many k found

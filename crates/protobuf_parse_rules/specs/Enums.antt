@@ -99,16 +99,30 @@ in_closed_range n r = not (int_lt n r.start) && not (int_lt r.end n)
 abbrev pub in_closed_ranges : ℤ → List Range → Bool
 in_closed_ranges n ranges = list_any (in_closed_range n) ranges
 
--- C39 for a range that begins at a number which lies in more than one of the ranges
-abbrev pub closed_overlapping : (ranges : List Range) → (start : ℤ) → Option Broken
-closed_overlapping ranges start =
-    broken_if (nat_lt 1 (count_by (in_closed_range start) ranges)) (rule.RangesOverlap start)
+-- whether two ranges of an enum overlap, by the test of protoc's DescriptorBuilder: where no number
+-- lies in one, the other has both its ends
+abbrev pub closed_overlap : Range → Range → Bool
+closed_overlap r s = not (int_lt s.end r.start) && not (int_lt r.end s.start)
+
+-- whether another range overlaps the first one and begins no later
+abbrev pub closed_overlaps_first : Range → Range → Bool
+closed_overlaps_first r s = not (int_lt r.start s.start) && closed_overlap r s
+
+-- whether more of the ranges than itself overlap it and begin no later
+abbrev pub is_closed_overlapped : (ranges : List Range) → Range → Bool
+is_closed_overlapped ranges r = nat_lt (count_by (closed_overlaps_first r) (r ∷ []))
+    (count_by (closed_overlaps_first r) ranges)
+
+-- C39 for such a range
+abbrev pub closed_overlapping : (ranges : List Range) → Range → Option Broken
+closed_overlapping ranges r =
+    broken_if (is_closed_overlapped ranges r) (rule.RangesOverlap r.start)
 
 -- of a range: C27 where its end is before its start, C39 where it overlaps another one
 abbrev pub closed_range : Site → (ranges : List Range) → Range → List Breach
 closed_range site ranges r = breaches_at site
     (broken_if (int_lt r.end r.start) (rule.RangeEmpty r.start)
-    ∷ closed_overlapping ranges r.start
+    ∷ closed_overlapping ranges r
     ∷ [])
 
 -- C29 and C30 for a value that has a number or a name which is reserved

@@ -4,9 +4,8 @@ use Rattle.std.specs.Prelude.{ℕ, ℤ, ◌*◌, ◌%◌, ◌^◌, ◌==◌, Boo
 use Rattle.std.specs.Prelude.{List, [], ◌∷◌, ◌++◌, map, flat_map, option_to_list, bit_xor}
 use Rattle.std.specs.Prelude.{encode_utf8_all}
 use Rattle.std.specs.Char.{to_ascii_lowercase}
+use Rattle.std.specs.Int.{cast_unsigned, w32}
 use Rattle.std.specs.List.{fold}
-use Rattle.std.specs.Hash as fed
-use Rattle.std.specs.Hash.FoldHasher.{initial, write, finish}
 use Rattle.protobuf_parse_base.specs.Characters as char
 use Rattle.protobuf_parse_model.specs.Descriptors.{Text, EnumDescriptor, EnumValueDescriptor}
 use Rattle.protobuf_parse_model.specs.Descriptors.{FieldDescriptor, MethodDescriptor}
@@ -19,24 +18,6 @@ use Rattle.protobuf_parse_rules.specs.Bodies.{of_message}
 use Rattle.protobuf_parse_rules.specs.declared.kind.NamedKind.{NamedKind}
 use Rattle.protobuf_parse_rules.specs.declared.kind.NamedKind.TheVariants as kind
 
--- what the hasher of std's maps makes of a name's bytes and of a number
-abbrev pub key_of : ℤ → Text → ℕ
-key_of number name = finish (fold write (write initial name) (fed.i32 number))
-
-abbrev pub thing_key : Thing → ℕ
-thing_key t = key_of t.number t.name
-
-abbrev pub claim_key : Claim → ℕ
-claim_key c = thing_key c.thing
-
--- ---- numbers of a message
-
-abbrev pub number_key : (message : Text) → FieldDescriptor → ℕ
-number_key message f = key_of f.number message
-
-abbrev pub extension_keys : FieldDescriptor → List ℕ
-extension_keys e = map (λ (m : Text). number_key m e) (option_to_list e.extendee)
-
 -- ---- texts, byte by byte
 
 abbrev pub no_text : ℕ
@@ -48,6 +29,30 @@ mixed key b = (bit_xor key b * 0x100_0000_01b3) % 2 ^ 64
 
 abbrev pub text_key : Text → ℕ
 text_key text = fold mixed no_text text
+
+-- ---- numbers behind texts
+
+-- the key of a number behind a text, by that of the text
+abbrev pub numbered : ℕ → ℤ → ℕ
+numbered key n = bit_xor key (cast_unsigned w32 n) * 0x100_0000_01b3 % 2 ^ 64
+
+-- the key of a thing: of its number behind its name
+abbrev pub thing_key : Thing → ℕ
+thing_key t = numbered (text_key t.name) t.number
+
+abbrev pub claim_key : Claim → ℕ
+claim_key c = thing_key c.thing
+
+-- ---- numbers of a message
+
+-- that of a field's or an extension's number, by the key of the message's name
+abbrev pub field_key : ℕ → FieldDescriptor → ℕ
+field_key key f = numbered key f.number
+
+abbrev pub extension_keys : FieldDescriptor → List ℕ
+extension_keys e = map (λ (m : Text). field_key (text_key m) e) (option_to_list e.extendee)
+
+-- ---- names in lower case
 
 -- the same of a text in lower case and without underscores
 abbrev pub squeezed_mixed : ℕ → ℕ → ℕ

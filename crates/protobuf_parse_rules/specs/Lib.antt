@@ -43,4 +43,5 @@ pub mod KnownTables
 pub mod Findings
 pub mod Violations
 pub mod Law
+pub mod Wanted
 pub mod ClaimsKept

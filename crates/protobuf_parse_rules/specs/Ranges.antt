@@ -68,10 +68,23 @@ ranges_for_extensions content =
 abbrev pub ranges_of : Content → List Range
 ranges_of content = reserved_ranges content ++ extension_ranges content
 
--- C39 for a range that begins at a number which lies in more than one of the ranges
-abbrev pub overlapping : (ranges : List Range) → (start : ℤ) → Option Broken
-overlapping ranges start =
-    broken_if (nat_lt 1 (count_by (in_range start) ranges)) (rule.RangesOverlap start)
+-- whether two ranges of a message overlap, by the test of protoc's DescriptorBuilder: where no
+-- number lies in one, the other has its `start` and the number before its `end`
+abbrev pub overlap : Range → Range → Bool
+overlap r s = int_lt r.start s.end && int_lt s.start r.end
+
+-- whether another range overlaps the first one and begins no later
+abbrev pub overlaps_first : Range → Range → Bool
+overlaps_first r s = not (int_lt r.start s.start) && overlap r s
+
+-- whether more of the ranges than itself overlap it and begin no later
+abbrev pub is_overlapped : (ranges : List Range) → Range → Bool
+is_overlapped ranges r =
+    nat_lt (count_by (overlaps_first r) (r ∷ [])) (count_by (overlaps_first r) ranges)
+
+-- C39 for such a range
+abbrev pub overlapping : (ranges : List Range) → Range → Option Broken
+overlapping ranges r = broken_if (is_overlapped ranges r) (rule.RangesOverlap r.start)
 
 -- what is wrong with a range of extensions of a message
 abbrev pub extension_range : Site → (message_set : Bool) → (ranges : List Range) → Range
@@ -80,10 +93,10 @@ extension_range site message_set ranges r = breaches_at site
     (not_positive r.start
     ∷ without_numbers r.start r.end
     ∷ too_large message_set r.end
-    ∷ overlapping ranges r.start
+    ∷ overlapping ranges r
     ∷ [])
 
 -- what is wrong with a reserved range of a message
 abbrev pub reserved_range : Site → (ranges : List Range) → Range → List Breach
 reserved_range site ranges r =
-    breaches_at site (not_positive r.start ∷ overlapping ranges r.start ∷ [])
+    breaches_at site (not_positive r.start ∷ overlapping ranges r ∷ [])

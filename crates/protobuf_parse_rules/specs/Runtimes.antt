@@ -39,10 +39,10 @@ file_at p = file_in p.file p.content
 abbrev pub file_named : List BodyParts → Text → Option NamedFile
 file_named all path = find (λ (f : NamedFile). bytes_eq f.path path) (flat_map file_at all)
 
--- the path of the file of the first that has the full name
-abbrev pub declaring_file : List BodyParts → Text → Option Text
-declaring_file all name = option_map (λ (n : Named). n.file)
-    (find (λ (n : Named). bytes_eq n.name name) (flat_map names_at all))
+-- the path of the file of the first of those that have names that has this one
+abbrev pub declaring_file : List Named → Text → Option Text
+declaring_file named name = option_map (λ (n : Named). n.file)
+    (find (λ (n : Named). bytes_eq n.name name) named)
 
 -- ---- the lite runtime
 
@@ -76,21 +76,22 @@ lite_imports all site f =
     if is_lite f then [] else flat_map (lite_import all site) f.dependency
 
 -- C50 for an extension, in a file for the lite runtime, of what has that full name
-abbrev pub lite_extendee : List BodyParts → Text → Option Broken
-lite_extendee all name = option_and_then (λ (path : Text).
+abbrev pub lite_extendee : List Named → List BodyParts → Text → Option Broken
+lite_extendee named all name = option_and_then (λ (path : Text).
     if is_lite_path all path then None else Some (broken_by rule.LiteExtension name))
-    (declaring_file all name)
+    (declaring_file named name)
 
 -- C50 at such an extension
-abbrev pub lite_extension : List BodyParts → (file scope : Text) → FieldDescriptor → List Breach
-lite_extension all file scope e =
+abbrev pub lite_extension : List Named → List BodyParts → (file scope : Text) → FieldDescriptor
+    → List Breach
+lite_extension named all file scope e =
     breaches_at (record { file = file; construct = name_within scope e.name })
-    (option_and_then (lite_extendee all) e.extendee ∷ [])
+    (option_and_then (lite_extendee named all) e.extendee ∷ [])
 
 -- of all extensions of a body
-abbrev pub lite_extensions : List BodyParts → BodyParts → List Breach
-lite_extensions all p = if is_lite_path all p.file
-    then flat_map (lite_extension all p.file p.scope) (extensions_of p.content) else []
+abbrev pub lite_extensions : List Named → List BodyParts → BodyParts → List Breach
+lite_extensions named all p = if is_lite_path all p.file
+    then flat_map (lite_extension named all p.file p.scope) (extensions_of p.content) else []
 
 -- whether options ask for services of the generic kind, in C++ or in Java
 abbrev pub is_generic_in : FileOptionValues → Bool
@@ -117,6 +118,11 @@ lite_file all file scope (of_message m) = []
 lite_file all file scope (of_file f) =
     lite_imports all (record { file = file; construct = scope }) f ++ lite_services file scope f
 
--- of a body
+-- of a body, where these have full names
+abbrev pub runtimes_among : List Named → List BodyParts → BodyParts → List Breach
+runtimes_among named all p =
+    lite_extensions named all p ++ lite_file all p.file p.scope p.content
+
+-- of a body, where all have names that the bodies declare
 abbrev pub runtime_breaches : List BodyParts → BodyParts → List Breach
-runtime_breaches all p = lite_extensions all p ++ lite_file all p.file p.scope p.content
+runtime_breaches all p = runtimes_among (flat_map names_at all) all p

@@ -57,7 +57,8 @@ pub fn add_closed(ends: &mut Ends, start: &i32, end: &i32) -> Result<(), AllocEr
     Ok(())
 }
 
-fn is_below(a: &i32, b: &i32) -> bool
+/// Whether the first number is below the second.
+pub fn is_below(a: &i32, b: &i32) -> bool
     ensures { result ≡ int_lt a.now b.now }
 {
     *a < *b

@@ -1,10 +1,7 @@
-//! A quick test that no key stands twice among many.
+//! Which keys may stand twice among many.
 
 ghost use Rattle.std.specs.Prelude.{◌≡◌, ◌<◌, ◌^◌, ◌++◌, [], ◌∷◌, ℕ, IfOk, List, filter, length};
-ghost use Rattle.std.specs.Prelude.{true};
-ghost use Rattle.std.specs.List.{IsDistinct};
-ghost use Rattle.std.proofs.Math.Dec.{eqb};
-ghost use Rattle.protobuf_parse_rules.specs.Crowds.{Counts, is_crowded, slot_among};
+ghost use Rattle.protobuf_parse_rules.specs.Crowds.{Counts, HasTwice, is_crowded, slot_among};
 
 use protobuf_parse_model::are_apart;
 use std::alloc::{AllocError, Global};
@@ -14,25 +11,30 @@ const FIRST_SPREAD: u64 = 0x9e37_79b9_7f4a_7c15;
 
 const SECOND_SPREAD: u64 = 0xc2b2_ae3d_27d4_eb4f;
 
+const THIRD_SPREAD: u64 = 0x1656_67b1_9e37_79f9;
+
 /// How many slots there are at most: as many as 32 bits count.
 const MOST_SLOTS: usize = 0xffff_ffff;
 
-/// Whether no key stands twice. Each has a slot, and only keys that share theirs get another; keys
-/// that share that, too, are sorted. The second slot spared 1 million instructions of 56 for
-/// 100,000 names.
-pub fn many_are_apart(alloc: Global, keys: &[u64]) -> Result<bool, AllocError>
-    ensures { IfOk result (λ apart. apart ≡ true → IsDistinct eqb keys.now) }
+/// Keys among which each stands that stands twice: none where none does, and else few others. Each
+/// has a slot, and only keys that share theirs get another. The second slot spared 1 million
+/// instructions of 56 for 100,000 names.
+pub fn twice_among(alloc: Global, keys: &[u64]) -> Result<Vec<u64>, AllocError>
+    ensures { IfOk result (λ found. HasTwice keys.now found.items) }
 {
     let crowded = crowd_of(alloc, FIRST_SPREAD, keys)?;
     let still_crowded = crowd_of(alloc, SECOND_SPREAD, &crowded)?;
-    Ok(are_apart(still_crowded))
+    let found = crowd_of(alloc, THIRD_SPREAD, &still_crowded)?;
+    if are_apart(Vec::from_slice(alloc, &found)?) {
+        return Ok(Vec::new(alloc));
+    }
+    Ok(found)
 }
 
 /// Keys among which each stands that stands twice: those that share their slots. There are eight
 /// slots for a key.
 fn crowd_of(alloc: Global, spread: u64, keys: &[u64]) -> Result<Vec<u64>, AllocError>
-    ensures { IfOk result
-        (λ crowd. IsDistinct eqb crowd.items → IsDistinct eqb keys.now) }
+    ensures { IfOk result (λ crowd. HasTwice keys.now crowd.items) }
 {
     let slots = keys.len().saturating_mul(8);
     if slots == 0 || slots > MOST_SLOTS {

@@ -2,7 +2,7 @@
 
 ghost use Rattle.std.specs.Prelude.{◌≡◌, ◌++◌, flat_map, map, nat_lt, option_map, string_bytes};
 ghost use Rattle.std.specs.Prelude.{IfOk, OnOk};
-ghost use Rattle.std.specs.List.{count_by};
+ghost use Rattle.std.specs.List.{count_by, list_any};
 ghost use Rattle.std.proofs.Props.{props};
 ghost use Rattle.protobuf_parse_model.specs.Descriptors.{enum_range_view, enum_value_view};
 ghost use Rattle.protobuf_parse_model.specs.Descriptors.{enum_view};
@@ -15,7 +15,7 @@ ghost use Rattle.protobuf_parse_rules.specs.Sets.{AreTexts};
 ghost use Rattle.protobuf_parse_rules.specs.declared.rule.Rule.TheVariants as rule;
 
 use crate::bodies::Body;
-use crate::cover::{Cover, add_closed, no_ends};
+use crate::cover::{Cover, add_closed, is_below, no_ends};
 use crate::finding::{Finding, Spot, found_if};
 use crate::rule::Rule;
 use crate::tell::tell_each;
@@ -114,20 +114,57 @@ fn check_range(
     let start = range.start;
     let found = [
         found_if(range.end < start, Rule::RangeEmpty { start }),
-        overlapping(bars, &range.start),
+        overlapping(bars, &range.start, &range.end),
     ];
     tell_each(alloc, told, at, &found)
 }
 
-/// The number at which a range begins lies in another one too.
-fn overlapping<'f>(bars: &EnumBars<'_>, start: &i32) -> Option<Finding<'f>>
+/// Another range overlaps the one that begins and ends there, and begins no later.
+fn overlapping<'f>(bars: &EnumBars<'_>, start: &i32, end: &i32) -> Option<Finding<'f>>
     ensures { option_map finding_view result
-        ≡ spec.closed_overlapping (enum_view bars.now.each.now).reserved_range start.now }
+        ≡ spec.closed_overlapping (enum_view bars.now.each.now).reserved_range
+        (record { start = start.now; end = end.now }) }
 {
     found_if(
-        bars.have_twice(start),
+        is_overlapped(bars, start, end),
         Rule::RangesOverlap { start: *start },
     )
+}
+
+/// Whether more of the ranges than itself overlap it, and begin no later. Where no number lies in
+/// it, which is rare, all ranges are gone through.
+fn is_overlapped(bars: &EnumBars<'_>, start: &i32, end: &i32) -> bool
+    ensures { result
+        ≡ spec.is_closed_overlapped (enum_view bars.now.each.now).reserved_range
+        (record { start = start.now; end = end.now }) }
+{
+    if is_below(end, start) {
+        any_overlaps(start, end, &bars.each.reserved_range)
+    } else {
+        bars.have_twice(start)
+    }
+}
+
+fn any_overlaps(start: &i32, end: &i32, ranges: &[EnumReservedRange]) -> bool
+    ensures { result ≡ list_any
+        (spec.closed_overlaps_first (record { start = start.now; end = end.now }))
+        (map enum_range_view ranges.now) }
+{
+    'reserved: for range in ranges {
+        if overlaps_first(start, end, &range.start, &range.end) {
+            return true;
+        }
+    }
+    false
+}
+
+/// Whether the range that begins and ends at the other two overlaps the first one, and begins no
+/// later.
+fn overlaps_first(start: &i32, end: &i32, other_start: &i32, other_end: &i32) -> bool
+    ensures { result ≡ spec.closed_overlaps_first (record { start = start.now; end = end.now })
+        (record { start = other_start.now; end = other_end.now }) }
+{
+    !is_below(start, other_start) && !is_below(other_end, start) && !is_below(end, other_start)
 }
 
 /// Tells each value with a number or a name that the enum reserves.

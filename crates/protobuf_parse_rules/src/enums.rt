@@ -10,7 +10,7 @@ ghost use Rattle.protobuf_parse_rules.specs.Enums.{allows_alias, enum_breaches, 
 ghost use Rattle.protobuf_parse_rules.specs.Enums.{not_zero};
 ghost use Rattle.protobuf_parse_rules.specs.Enums.{value_claim, value_rule, values_in_use};
 ghost use Rattle.protobuf_parse_rules.specs.Findings.{finding_view, site_of};
-ghost use Rattle.protobuf_parse_rules.specs.Keys.{key_of};
+ghost use Rattle.protobuf_parse_rules.specs.Keys.{no_text, numbered};
 ghost use Rattle.protobuf_parse_rules.specs.Bodies.{body_view};
 ghost use Rattle.protobuf_parse_wire.specs.Declarations.{name_within};
 ghost use Rattle.protobuf_parse_rules.specs.Enums as spec;
@@ -24,7 +24,7 @@ use crate::bodies::Body;
 use crate::claims::{Held, Holders, Thing, check_claim};
 use crate::enum_bars::{EnumBars, check_ranges, check_reserved, enum_bars_of};
 use crate::finding::{Finding, found, found_if};
-use crate::keys::key_of;
+use crate::keys::{NO_TEXT, numbered};
 use crate::repeats::check_repeats;
 use crate::rule::Rule;
 use crate::tell::tell_each;
@@ -181,12 +181,12 @@ fn check_values(
 /// The keys of the values' numbers.
 fn keys_of(alloc: Global, values: &[EnumValueDescriptorProto]) -> Result<Vec<u64>, AllocError>
     ensures { IfOk result (λ keys. keys.items
-        ≡ map (λ (v : EnumValueDescriptor). key_of v.number [])
+        ≡ map (λ (v : EnumValueDescriptor). numbered no_text v.number)
         (map enum_value_view values.now)) }
 {
     let mut keys = Vec::with_capacity(alloc, values.len())?;
     'values: for value in values {
-        keys.push(key_of(value.number, ""))?;
+        keys.push(numbered(NO_TEXT, &value.number))?;
     }
     Ok(keys)
 }

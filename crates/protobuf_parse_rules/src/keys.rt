@@ -6,19 +6,13 @@ ghost use Rattle.std.specs.Prelude.{◌≡◌, encode_utf8_all};
 ghost use Rattle.std.specs.List.{fold};
 ghost use Rattle.protobuf_parse_rules.specs.Alike.{squeezed};
 ghost use Rattle.protobuf_parse_rules.specs.Keys as spec;
-ghost use Rattle.protobuf_parse_rules.specs.Keys.{key_of};
 ghost use Rattle.protobuf_parse_rules.specs.Known.{keyed};
 
-use std::hash::{FoldHasher, Hasher};
-
-/// The hash of a name, a multiplication for each sixteen bytes, and of a number.
-pub fn key_of(number: i32, name: &str) -> u64
-    ensures { result ≡ key_of number name.now }
+/// The key of a number behind a text, by that of the text.
+pub fn numbered(key: u64, number: &i32) -> u64
+    ensures { result ≡ spec.numbered key number.now }
 {
-    let mut hasher = FoldHasher::default();
-    hasher.write(name.as_bytes());
-    hasher.write_i32(number);
-    hasher.finish()
+    (key ^ number.cast_unsigned() as u64).wrapping_mul(0x100_0000_01b3)
 }
 
 /// The key of a text without bytes.

@@ -1,18 +1,17 @@
-//! A quick test that no two things have one full name, by a key of each: no full name is made for
-//! it, since the key of a name goes on from that of the scope.
+//! Which full names two things may have, by a key of each: no full name is made for it, since the
+//! key of a name goes on from that of the scope.
 
-ghost use Rattle.std.specs.Prelude.{◌≡◌, ◌++◌, [], ◌∷◌, ℕ, map, flat_map, OnOk, IfOk, true};
-ghost use Rattle.std.specs.List.{fold};
+ghost use Rattle.std.specs.Prelude.{◌≡◌, ◌++◌, map, flat_map, OnOk, IfOk};
 ghost use Rattle.protobuf_parse_model.specs.Descriptors.{enum_value_view, enum_view, field_view};
 ghost use Rattle.protobuf_parse_model.specs.Descriptors.{method_view, oneof_view, service_view};
 ghost use Rattle.protobuf_parse_rules.specs.Keys as spec;
-ghost use Rattle.protobuf_parse_rules.specs.Keys.{inside, mixed, name_key, packages_at};
+ghost use Rattle.protobuf_parse_rules.specs.Keys.{inside, name_key, packages_at};
 ghost use Rattle.protobuf_parse_rules.specs.KnownNames.{named_view};
-ghost use Rattle.protobuf_parse_rules.specs.Names.{names_in_use};
 ghost use Rattle.protobuf_parse_rules.specs.Bodies.{body_view, content_view};
+ghost use Rattle.protobuf_parse_rules.specs.Wanted.{AreLone};
 
 use crate::bodies::{Body, Holds};
-use crate::crowds::many_are_apart;
+use crate::crowds::twice_among;
 use crate::keys::{NO_TEXT, text_key};
 use crate::names::{Named, packages_of};
 use protobuf_parse_model::{
@@ -21,17 +20,18 @@ use protobuf_parse_model::{
 };
 use std::alloc::{AllocError, Global};
 
-/// Whether no two things in the bodies have one full name, other than packages, by the keys of all.
-pub fn names_are_apart(alloc: Global, bodies: &[Body<'_>]) -> Result<bool, AllocError>
-    ensures { IfOk result (λ apart. apart ≡ true → names_in_use (map body_view bodies.now) ≡ []) }
+/// Keys among which those of full names stand that two things in the bodies have, other than
+/// packages: none where no two have one.
+pub fn doubled_names(alloc: Global, bodies: &[Body<'_>]) -> Result<Vec<u64>, AllocError>
+    ensures { IfOk result (λ found. AreLone found.items (map body_view bodies.now)) }
 {
     let mut packages = package_keys(alloc, bodies)?;
     packages.sort_unstable();
     packages.dedup();
     let mut keys = other_keys(alloc, bodies)?;
     keys.append(&mut packages)?;
-    let apart = many_are_apart(alloc, &keys)?;
-    Ok(apart)
+    let found = twice_among(alloc, &keys)?;
+    Ok(found)
 }
 
 /// The keys of packages.
@@ -44,7 +44,7 @@ fn package_keys(alloc: Global, bodies: &[Body<'_>]) -> Result<Vec<u64>, AllocErr
 }
 
 /// The keys of the names.
-fn keys_of(alloc: Global, names: &[Named<'_>]) -> Result<Vec<u64>, AllocError>
+pub fn keys_of(alloc: Global, names: &[Named<'_>]) -> Result<Vec<u64>, AllocError>
     ensures { IfOk result (λ keys. keys.items ≡ map name_key (map named_view names.now)) }
 {
     let mut keys = Vec::new(alloc);
@@ -75,7 +75,8 @@ fn fields_in(bodies: &[Body<'_>]) -> usize {
     count
 }
 
-fn add_keys(keys: &mut Vec<u64>, body: &Body<'_>) -> Result<(), AllocError>
+/// The keys of all in the body that are no packages.
+pub fn add_keys(keys: &mut Vec<u64>, body: &Body<'_>) -> Result<(), AllocError>
     ensures { OnOk result (keys.new.items
         ≡ keys.old.items ++ spec.other_keys (body_view body.now)) }
 {

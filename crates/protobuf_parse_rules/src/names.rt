@@ -7,7 +7,7 @@ ghost use Rattle.protobuf_parse_model.specs.Descriptors.{enum_value_view, enum_v
 ghost use Rattle.protobuf_parse_model.specs.Descriptors.{method_view, oneof_view, service_view};
 ghost use Rattle.protobuf_parse_rules.specs.Claims.{conflicts};
 ghost use Rattle.protobuf_parse_rules.specs.ClaimsKept.{Claims, Knows};
-ghost use Rattle.protobuf_parse_rules.specs.Keys.{packages_at, packages_in};
+ghost use Rattle.protobuf_parse_rules.specs.Keys as keys;
 ghost use Rattle.protobuf_parse_rules.specs.KnownNames.{named_view};
 ghost use Rattle.protobuf_parse_rules.specs.Names as spec;
 ghost use Rattle.protobuf_parse_rules.specs.Names.{name_claim, name_rule, names_at};
@@ -77,19 +77,8 @@ fn check_name<'a>(
     check_claim(alloc, Held::Name, holders, told, thing, by)
 }
 
-/// What has a full name in the bodies, in order.
-pub fn names_of<'a>(alloc: Global, bodies: &[Body<'a>]) -> Result<Vec<Named<'a>>, AllocError>
-    ensures { IfOk result (λ v. map named_view v.items
-        ≡ flat_map names_at (map body_view bodies.now)) }
-{
-    let mut names = Vec::new(alloc);
-    'bodies: for body in bodies {
-        add_names(alloc, &mut names, body)?;
-    }
-    Ok(names)
-}
-
-fn add_names<'a>(
+/// What has a full name in the body.
+pub fn add_names<'a>(
     alloc: Global,
     names: &mut Vec<Named<'a>>,
     body: &Body<'a>,
@@ -315,12 +304,21 @@ fn add_methods<'a>(
 /// The packages of the bodies, in order.
 pub fn packages_of<'a>(alloc: Global, bodies: &[Body<'a>]) -> Result<Vec<Named<'a>>, AllocError>
     ensures { IfOk result (λ v. map named_view v.items
-        ≡ flat_map packages_at (map body_view bodies.now)) }
+        ≡ flat_map keys.packages_at (map body_view bodies.now)) }
 {
     let mut names = Vec::new(alloc);
     'bodies: for body in bodies {
         add_packages(alloc, &mut names, body.file, body.holds)?;
     }
+    Ok(names)
+}
+
+/// The packages of the body.
+pub fn packages_in<'a>(alloc: Global, body: &Body<'a>) -> Result<Vec<Named<'a>>, AllocError>
+    ensures { IfOk result (λ v. map named_view v.items ≡ keys.packages_at (body_view body.now)) }
+{
+    let mut names = Vec::new(alloc);
+    add_packages(alloc, &mut names, body.file, body.holds)?;
     Ok(names)
 }
 
@@ -331,7 +329,7 @@ fn add_packages<'a>(
     holds: Holds<'_>,
 ) -> Result<(), AllocError>
     ensures { OnOk result (map named_view names.new.items ≡ map named_view names.old.items
-        ++ packages_in file.now (content_view holds.entry)) }
+        ++ keys.packages_in file.now (content_view holds.entry)) }
 {
     match holds {
         Holds::File(each) => add_package(alloc, names, file, &each.package),

@@ -1,7 +1,7 @@
 //! Ranges of numbers, and names, that a message reserves or keeps for extensions.
 
 ghost use Rattle.std.specs.Prelude.{◌≡◌, ◌++◌, map, flat_map, nat_lt, option_map, IfOk, OnOk, ℤ};
-ghost use Rattle.std.specs.List.{count_by};
+ghost use Rattle.std.specs.List.{count_by, list_any};
 ghost use Rattle.protobuf_parse_model.specs.Descriptors.{extension_range_view};
 ghost use Rattle.protobuf_parse_model.specs.Descriptors.{reserved_range_view};
 ghost use Rattle.protobuf_parse_rules.specs.Covers.{AreEnds};
@@ -14,7 +14,7 @@ ghost use Rattle.protobuf_parse_rules.specs.Violations.{site_of_body};
 
 use crate::bars::Bars;
 use crate::bodies::Holds;
-use crate::cover::{Cover, add_open, no_ends};
+use crate::cover::{Cover, add_open, is_below, no_ends};
 use crate::finding::{Finding, found_if};
 use crate::message_sets::is_message_set;
 use crate::rule::Rule;
@@ -132,15 +132,67 @@ fn too_large<'a>(message_set: bool, end: i32) -> Option<Finding<'a>>
     )
 }
 
-/// The number at which a range begins lies in another one too.
-fn overlapping<'f>(bars: &Bars<'_>, start: &i32) -> Option<Finding<'f>>
+/// Another range overlaps the one that begins and ends there, and begins no later.
+fn overlapping<'f>(bars: &Bars<'_>, start: &i32, end: &i32) -> Option<Finding<'f>>
     ensures { option_map finding_view result
-        ≡ spec.overlapping (spec.ranges_of (content_view bars.now.body.now.holds)) start.now }
+        ≡ spec.overlapping (spec.ranges_of (content_view bars.now.body.now.holds))
+        (record { start = start.now; end = end.now }) }
 {
     found_if(
-        lie_in_two(bars, start),
+        is_overlapped(bars, start, end),
         Rule::RangesOverlap { start: *start },
     )
+}
+
+/// Whether more of the ranges than itself overlap it, and begin no later. Where no number lies in
+/// it, which is rare, all ranges are gone through.
+fn is_overlapped(bars: &Bars<'_>, start: &i32, end: &i32) -> bool
+    ensures { result
+        ≡ spec.is_overlapped (spec.ranges_of (content_view bars.now.body.now.holds))
+        (record { start = start.now; end = end.now }) }
+{
+    if is_below(start, end) {
+        lie_in_two(bars, start)
+    } else {
+        let holds = bars.body.holds;
+        any_reserved_overlaps(start, end, holds.reserved_ranges())
+            || any_kept_overlaps(start, end, holds.extension_ranges())
+    }
+}
+
+fn any_reserved_overlaps(start: &i32, end: &i32, ranges: &[ReservedRange]) -> bool
+    ensures { result ≡ list_any
+        (spec.overlaps_first (record { start = start.now; end = end.now }))
+        (map reserved_range_view ranges.now) }
+{
+    'reserved: for range in ranges {
+        if overlaps_first(start, end, &range.start, &range.end) {
+            return true;
+        }
+    }
+    false
+}
+
+fn any_kept_overlaps(start: &i32, end: &i32, ranges: &[ExtensionRange]) -> bool
+    ensures { result ≡ list_any
+        (spec.overlaps_first (record { start = start.now; end = end.now }))
+        (map extension_range_view ranges.now) }
+{
+    'kept: for range in ranges {
+        if overlaps_first(start, end, &range.start, &range.end) {
+            return true;
+        }
+    }
+    false
+}
+
+/// Whether the range that begins and ends at the other two overlaps the first one, and begins no
+/// later.
+fn overlaps_first(start: &i32, end: &i32, other_start: &i32, other_end: &i32) -> bool
+    ensures { result ≡ spec.overlaps_first (record { start = start.now; end = end.now })
+        (record { start = other_start.now; end = other_end.now }) }
+{
+    !is_below(start, other_start) && is_below(start, other_end) && is_below(other_start, end)
 }
 
 fn lie_in_two(bars: &Bars<'_>, number: &i32) -> bool
@@ -185,7 +237,7 @@ fn check_extension_range(
         not_positive(range.start),
         without_numbers(range.start, range.end),
         too_large(is_message_set(bars.body.holds), range.end),
-        overlapping(bars, &range.start),
+        overlapping(bars, &range.start, &range.end),
     ];
     tell_each(alloc, told, bars.body.own_spot(), &found)
 }
@@ -218,6 +270,9 @@ fn check_reserved_range(
         ++ spec.reserved_range (site_of_body (body_view bars.now.body.now))
         (spec.ranges_of (content_view bars.now.body.now.holds)) (reserved_range_view range.now)) }
 {
-    let found = [not_positive(range.start), overlapping(bars, &range.start)];
+    let found = [
+        not_positive(range.start),
+        overlapping(bars, &range.start, &range.end),
+    ];
     tell_each(alloc, told, bars.body.own_spot(), &found)
 }

@@ -7,13 +7,13 @@ ghost use Rattle.std.specs.List.{list_any};
 ghost use Rattle.protobuf_parse_model.specs.Descriptors.{Text, field_view, file_view, service_view};
 ghost use Rattle.protobuf_parse_rules.specs.Findings.{finding_view, site_of};
 ghost use Rattle.protobuf_parse_rules.specs.Known.{Finds};
-ghost use Rattle.protobuf_parse_rules.specs.KnownFiles.{Tells, is_lite_body, known_file};
-ghost use Rattle.protobuf_parse_rules.specs.KnownFiles.{path_named};
+ghost use Rattle.protobuf_parse_rules.specs.KnownFiles.{Surroundings, Tells, is_lite_body};
+ghost use Rattle.protobuf_parse_rules.specs.KnownFiles.{known_file, path_named};
 ghost use Rattle.protobuf_parse_rules.specs.Bodies.{BodyParts, body_view, content_view};
 ghost use Rattle.protobuf_parse_rules.specs.Rules.{breaches_told};
 ghost use Rattle.protobuf_parse_rules.specs.Runtimes as spec;
 ghost use Rattle.protobuf_parse_rules.specs.Runtimes.{NamedFile, declaring_file, file_at};
-ghost use Rattle.protobuf_parse_rules.specs.Runtimes.{file_named, is_lite_path, runtime_breaches};
+ghost use Rattle.protobuf_parse_rules.specs.Runtimes.{is_lite_path, runtimes_among};
 
 use crate::bodies::{Body, Holds};
 use crate::claims::{Holders, Thing, first_of};
@@ -35,25 +35,21 @@ pub struct KnownFile<'a> {
     pub file: &'a FileDescriptorProto,
 }
 
-/// The first of those that have each full name, and the first file of each path.
+/// The first file of each path.
+pub type Files<'a> = BTreeMap<(u64, &'a str), KnownFile<'a>>;
+
+/// The first of those that have each full name, of some names, and the files.
 #[derive(Drop)]
 pub struct Declared<'a> {
     pub first: Holders<'a>,
-    pub files: BTreeMap<(u64, &'a str), KnownFile<'a>>,
+    pub files: Files<'a>,
 }
 
 impl<'a> Declared<'a> {
-    fn file(&self, path: &'a str) -> Option<KnownFile<'a>>
-        ensures { (all : List BodyParts) → Tells self.now all →
-            option_map known_file result ≡ file_named all path.now }
-    {
-        file_with(&self.files, path)
-    }
-
     /// The file of the first that has the full name.
     fn file_of(&self, name: &'a str) -> Option<&'a str>
-        ensures { (all : List BodyParts) → Tells self.now all →
-            option_map (λ (path : Bor Text). path.now) result ≡ declaring_file all name.now }
+        ensures { (s : Surroundings) → Tells self.now s →
+            option_map (λ (path : Bor Text). path.now) result ≡ declaring_file s.named name.now }
     {
         let thing = Thing {
             number: 0,
@@ -68,12 +64,10 @@ impl<'a> Declared<'a> {
 
     /// Whether a file has the path, and is for the lite runtime.
     fn is_lite(&self, path: &'a str) -> bool
-        ensures { (all : List BodyParts) → Tells self.now all → result ≡ is_lite_path all path.now }
+        ensures { (s : Surroundings) → Tells self.now s →
+            result ≡ is_lite_path s.all path.now }
     {
-        match self.file(path) {
-            Some(known) => is_lite(known.file),
-            None => false,
-        }
+        is_lite_path(&self.files, path)
     }
 }
 
@@ -102,21 +96,26 @@ fn has_generic_services(file: &FileDescriptorProto) -> bool
 }
 
 /// The file with the path.
-pub fn file_with<'a>(
-    files: &BTreeMap<(u64, &'a str), KnownFile<'a>>,
-    path: &'a str,
-) -> Option<KnownFile<'a>>
+pub fn file_with<'a>(files: &Files<'a>, path: &'a str) -> Option<KnownFile<'a>>
     ensures { (all : List NamedFile) → Finds known_file path_named files.now all →
         option_map known_file result ≡ find (λ (f : NamedFile). bytes_eq f.path path.now) all }
 {
     files.get(&keyed(path)).copied()
 }
 
+/// Whether a file has the path, and is for the lite runtime.
+pub fn is_lite_path<'a>(files: &Files<'a>, path: &'a str) -> bool
+    ensures { (all : List BodyParts) → Finds known_file path_named files.now (flat_map file_at all)
+        → result ≡ is_lite_path all path.now }
+{
+    match file_with(files, path) {
+        Some(known) => is_lite(known.file),
+        None => false,
+    }
+}
+
 /// The files of the bodies by their paths; of those with one path, the first.
-pub fn files_of<'a>(
-    alloc: Global,
-    bodies: &[Body<'a>],
-) -> Result<BTreeMap<(u64, &'a str), KnownFile<'a>>, AllocError>
+pub fn files_of<'a>(alloc: Global, bodies: &[Body<'a>]) -> Result<Files<'a>, AllocError>
     ensures { IfOk result (λ m. Finds known_file path_named m
         (flat_map file_at (map body_view bodies.now))) }
 {
@@ -127,11 +126,7 @@ pub fn files_of<'a>(
     Ok(files)
 }
 
-fn add_file<'a>(
-    files: &mut BTreeMap<(u64, &'a str), KnownFile<'a>>,
-    path: &'a str,
-    holds: Holds<'a>,
-) -> Result<(), AllocError>
+fn add_file<'a>(files: &mut Files<'a>, path: &'a str, holds: Holds<'a>) -> Result<(), AllocError>
     ensures { OnOk result ((before : List NamedFile) → Finds known_file path_named files.old before
         → Finds known_file path_named files.new
         (before ++ spec.file_in path.now (content_view holds.entry))) }
@@ -143,7 +138,7 @@ fn add_file<'a>(
 }
 
 fn put_file<'a>(
-    files: &mut BTreeMap<(u64, &'a str), KnownFile<'a>>,
+    files: &mut Files<'a>,
     path: &'a str,
     file: &'a FileDescriptorProto,
 ) -> Result<(), AllocError>
@@ -188,9 +183,9 @@ pub fn check_runtimes<'a>(
     declared: &Declared<'a>,
     bodies: &'a [Body<'a>],
 ) -> Result<(), AllocError>
-    ensures { OnOk result ((all : List BodyParts) → Tells declared.now all →
+    ensures { OnOk result ((s : Surroundings) → Tells declared.now s →
         breaches_told told.new ≡ breaches_told told.old
-        ++ flat_map (runtime_breaches all) (map body_view bodies.now)) }
+        ++ flat_map (runtimes_among s.named s.all) (map body_view bodies.now)) }
 {
     'bodies: for body in bodies {
         check_body(alloc, told, declared, body)?;
@@ -204,9 +199,9 @@ fn check_body<'a>(
     declared: &Declared<'a>,
     body: &'a Body<'a>,
 ) -> Result<(), AllocError>
-    ensures { OnOk result ((all : List BodyParts) → Tells declared.now all →
+    ensures { OnOk result ((s : Surroundings) → Tells declared.now s →
         breaches_told told.new ≡ breaches_told told.old
-        ++ runtime_breaches all (body_view body.now)) }
+        ++ runtimes_among s.named s.all (body_view body.now)) }
 {
     check_extensions(alloc, told, declared, body)?;
     check_file(alloc, told, declared, body)
@@ -219,9 +214,9 @@ fn check_extensions<'a>(
     declared: &Declared<'a>,
     body: &'a Body<'a>,
 ) -> Result<(), AllocError>
-    ensures { OnOk result ((all : List BodyParts) → Tells declared.now all →
+    ensures { OnOk result ((s : Surroundings) → Tells declared.now s →
         breaches_told told.new ≡ breaches_told told.old
-        ++ spec.lite_extensions all (body_view body.now)) }
+        ++ spec.lite_extensions s.named s.all (body_view body.now)) }
 {
     if !declared.is_lite(body.file) {
         return Ok(());
@@ -236,9 +231,9 @@ fn check_each_extension<'a>(
     body: &'a Body<'a>,
     extensions: &'a [FieldDescriptorProto],
 ) -> Result<(), AllocError>
-    ensures { OnOk result ((all : List BodyParts) → Tells declared.now all →
+    ensures { OnOk result ((s : Surroundings) → Tells declared.now s →
         breaches_told told.new ≡ breaches_told told.old
-        ++ flat_map (spec.lite_extension all body.now.file.now (string_bytes body.now.scope))
+        ++ flat_map (spec.lite_extension s.named s.all body.now.file.now (string_bytes body.now.scope))
         (map field_view extensions.now)) }
 {
     'extensions: for extension in extensions {
@@ -254,9 +249,9 @@ fn check_extension<'a>(
     body: &'a Body<'a>,
     extension: &'a FieldDescriptorProto,
 ) -> Result<(), AllocError>
-    ensures { OnOk result ((all : List BodyParts) → Tells declared.now all →
+    ensures { OnOk result ((s : Surroundings) → Tells declared.now s →
         breaches_told told.new ≡ breaches_told told.old
-        ++ spec.lite_extension all body.now.file.now (string_bytes body.now.scope)
+        ++ spec.lite_extension s.named s.all body.now.file.now (string_bytes body.now.scope)
         (field_view extension.now)) }
 {
     let found = lite_extension(declared, extension);
@@ -267,8 +262,8 @@ fn lite_extension<'a>(
     declared: &Declared<'a>,
     extension: &'a FieldDescriptorProto,
 ) -> Option<Finding<'a>>
-    ensures { (all : List BodyParts) → Tells declared.now all → option_map finding_view result
-        ≡ option_and_then (spec.lite_extendee all) (field_view extension.now).extendee }
+    ensures { (s : Surroundings) → Tells declared.now s → option_map finding_view result
+        ≡ option_and_then (spec.lite_extendee s.named s.all) (field_view extension.now).extendee }
 {
     match &extension.extendee {
         Some(name) => lite_extendee(declared, name),
@@ -277,8 +272,8 @@ fn lite_extension<'a>(
 }
 
 fn lite_extendee<'a>(declared: &Declared<'a>, name: &'a str) -> Option<Finding<'a>>
-    ensures { (all : List BodyParts) → Tells declared.now all → option_map finding_view result
-        ≡ spec.lite_extendee all name.now }
+    ensures { (s : Surroundings) → Tells declared.now s → option_map finding_view result
+        ≡ spec.lite_extendee s.named s.all name.now }
 {
     match declared.file_of(name) {
         Some(path) => {
@@ -299,9 +294,9 @@ fn check_file<'a>(
     declared: &Declared<'a>,
     body: &'a Body<'a>,
 ) -> Result<(), AllocError>
-    ensures { OnOk result ((all : List BodyParts) → Tells declared.now all →
+    ensures { OnOk result ((s : Surroundings) → Tells declared.now s →
         breaches_told told.new ≡ breaches_told told.old
-        ++ spec.lite_file all body.now.file.now (string_bytes body.now.scope)
+        ++ spec.lite_file s.all body.now.file.now (string_bytes body.now.scope)
         (content_view body.now.holds)) }
 {
     match body.holds {
@@ -317,9 +312,9 @@ fn check_lite_file<'a>(
     body: &'a Body<'a>,
     file: &'a FileDescriptorProto,
 ) -> Result<(), AllocError>
-    ensures { OnOk result ((all : List BodyParts) → Tells declared.now all →
+    ensures { OnOk result ((s : Surroundings) → Tells declared.now s →
         breaches_told told.new ≡ breaches_told told.old
-        ++ (spec.lite_imports all (record {
+        ++ (spec.lite_imports s.all (record {
           file = body.now.file.now;
           construct = string_bytes body.now.scope;
         }) (file_view file.now)
@@ -337,9 +332,9 @@ fn check_imports<'a>(
     at: Spot<'_>,
     file: &'a FileDescriptorProto,
 ) -> Result<(), AllocError>
-    ensures { OnOk result ((all : List BodyParts) → Tells declared.now all →
+    ensures { OnOk result ((s : Surroundings) → Tells declared.now s →
         breaches_told told.new ≡ breaches_told told.old
-        ++ spec.lite_imports all (site_of at.entry) (file_view file.now)) }
+        ++ spec.lite_imports s.all (site_of at.entry) (file_view file.now)) }
 {
     if is_lite(file) {
         return Ok(());
@@ -354,9 +349,9 @@ fn check_each_import<'a>(
     at: Spot<'_>,
     imports: &'a [String],
 ) -> Result<(), AllocError>
-    ensures { OnOk result ((all : List BodyParts) → Tells declared.now all →
+    ensures { OnOk result ((s : Surroundings) → Tells declared.now s →
         breaches_told told.new ≡ breaches_told told.old
-        ++ flat_map (spec.lite_import all (site_of at.entry)) (map string_bytes imports.now)) }
+        ++ flat_map (spec.lite_import s.all (site_of at.entry)) (map string_bytes imports.now)) }
 {
     'imports: for path in imports {
         check_import(alloc, told, declared, at, path)?;
@@ -371,17 +366,17 @@ fn check_import<'a>(
     at: Spot<'_>,
     path: &'a str,
 ) -> Result<(), AllocError>
-    ensures { OnOk result ((all : List BodyParts) → Tells declared.now all →
+    ensures { OnOk result ((s : Surroundings) → Tells declared.now s →
         breaches_told told.new ≡ breaches_told told.old
-        ++ spec.lite_import all (site_of at.entry) path.now) }
+        ++ spec.lite_import s.all (site_of at.entry) path.now) }
 {
     let found = of_lite_path(declared, path);
     tell(alloc, told, at, &found)
 }
 
 fn of_lite_path<'a>(declared: &Declared<'a>, path: &'a str) -> Option<Finding<'a>>
-    ensures { (all : List BodyParts) → Tells declared.now all → option_map finding_view result
-        ≡ spec.of_lite_path all path.now }
+    ensures { (s : Surroundings) → Tells declared.now s → option_map finding_view result
+        ≡ spec.of_lite_path s.all path.now }
 {
     if declared.is_lite(path) {
         found_by(Rule::LiteImport, path)

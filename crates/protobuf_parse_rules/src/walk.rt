@@ -1,6 +1,6 @@
 //! All files, body by body.
 
-ghost use Rattle.std.specs.Prelude.{◌≡◌, ◌++◌, [], ◌∷◌, List, map, flat_map, OnOk, IfOk};
+ghost use Rattle.std.specs.Prelude.{◌≡◌, ◌++◌, [], ◌∷◌, ℕ, List, map, flat_map, OnOk, IfOk};
 ghost use Rattle.protobuf_parse_model.specs.Descriptors.{enum_view, field_view, file_view};
 ghost use Rattle.protobuf_parse_rules.specs.Alike.{fields_alike};
 ghost use Rattle.protobuf_parse_rules.specs.Enums.{enum_breaches};
@@ -8,15 +8,17 @@ ghost use Rattle.protobuf_parse_rules.specs.JsonNames.{json_names_in_use};
 ghost use Rattle.protobuf_parse_rules.specs.KnownNames.{named_view};
 ghost use Rattle.protobuf_parse_rules.specs.KnownTables.{Knows};
 ghost use Rattle.protobuf_parse_rules.specs.Methods.{methods_breaches};
-ghost use Rattle.protobuf_parse_rules.specs.Names.{names_at, names_in_use};
+ghost use Rattle.protobuf_parse_rules.specs.Names.{name_claim, name_rule, names_in_use};
 ghost use Rattle.protobuf_parse_rules.specs.Nesting.{deep_messages};
 ghost use Rattle.protobuf_parse_rules.specs.Bodies.{BodyParts, body_view, content_view};
 ghost use Rattle.protobuf_parse_rules.specs.Bodies.{imports_of, reserved_names};
 ghost use Rattle.protobuf_parse_rules.specs.Repeats.{repeats};
 ghost use Rattle.protobuf_parse_rules.specs.Rules.{breaches_at, breaches_told};
-ghost use Rattle.protobuf_parse_rules.specs.Runtimes.{runtime_breaches};
+ghost use Rattle.protobuf_parse_rules.specs.Runtimes.{runtime_breaches, runtimes_among};
 ghost use Rattle.protobuf_parse_rules.specs.Violations.{breaches, breaches_after};
-ghost use Rattle.protobuf_parse_rules.specs.ClaimsKept.{Checks};
+ghost use Rattle.protobuf_parse_rules.specs.Claims.{conflicts};
+ghost use Rattle.protobuf_parse_rules.specs.ClaimsKept.{Checks, breaches_wanted};
+ghost use Rattle.protobuf_parse_rules.specs.Wanted.{has_key, lite_keys};
 ghost use Rattle.protobuf_parse_rules.specs.Violations.{breaches_among, breaches_inside};
 ghost use Rattle.protobuf_parse_rules.specs.Violations.{breaches_in_rest, own_breaches, own_rules};
 ghost use Rattle.protobuf_parse_rules.specs.Violations.{imports_breaches, range_breaches};
@@ -29,14 +31,17 @@ use crate::bars::{Bars, bars_of};
 use crate::bodies::{Body, bodies_of};
 use crate::claims::Holders;
 use crate::enums::check_enum;
+use crate::extendees::add_lite_keys;
 use crate::fields::{check_extensions, check_fields};
 use crate::imports::check_unused_imports;
 use crate::json_names::check_json_names;
+use crate::key_set::KeySet;
 use crate::methods::check_methods;
-use crate::name_keys::names_are_apart;
-use crate::names::{Named, check_names, names_of};
+use crate::name_keys::doubled_names;
+use crate::names::{Named, check_names};
 use crate::nesting::check_nesting;
-use crate::numbers::{check_numbers, numbers_are_apart};
+use crate::number_keys::doubled_numbers;
+use crate::numbers::check_numbers;
 use crate::oneofs::check_oneofs;
 use crate::proto3::{ranges_kept, set_in_proto3};
 use crate::ranges::{check_extension_ranges, check_reserved_ranges};
@@ -46,6 +51,7 @@ use crate::runtimes::{Declared, check_runtimes, files_of, have_lite};
 use crate::tables::{Tables, enums_of, no_tables, tables_of};
 use crate::tell::tell_each;
 use crate::violation::Violation;
+use crate::wanted_names::wanted_names;
 use protobuf_parse_model::{EnumDescriptorProto, FileDescriptorProto};
 use std::alloc::{AllocError, Global};
 use std::collections::BTreeMap;
@@ -79,25 +85,43 @@ fn check_declared<'a>(
         ++ (names_in_use (map body_view bodies.now)
         ++ flat_map (runtime_breaches (map body_view bodies.now)) (map body_view bodies.now))) }
 {
-    let apart = names_are_apart(alloc, bodies)?;
-    if apart && !have_lite(bodies) {
+    let doubled = doubled_names(alloc, bodies)?;
+    if doubled.is_empty() && !have_lite(bodies) {
         return Ok(());
     }
-    let names = names_of(alloc, bodies)?;
+    let wanted = wanted_keys(alloc, doubled, bodies)?;
+    let names = wanted_names(alloc, &wanted, bodies)?;
     check_named(alloc, told, &names, bodies)
 }
 
-/// Tells the same by looking at each name and at each runtime.
+/// The keys of names that two things may have, and of what extensions in files for the lite runtime
+/// extend.
+fn wanted_keys<'a>(
+    alloc: Global,
+    doubled: Vec<u64>,
+    bodies: &'a [Body<'a>],
+) -> Result<KeySet, AllocError>
+    ensures { IfOk result (λ wanted. (k : ℕ) → has_key wanted.sorted.items k
+        ≡ has_key (doubled.items
+        ++ flat_map (lite_keys (map body_view bodies.now)) (map body_view bodies.now)) k) }
+{
+    let files = files_of(alloc, bodies)?;
+    let mut keys = doubled;
+    add_lite_keys(&mut keys, &files, bodies)?;
+    Ok(KeySet::of(keys))
+}
+
+/// Tells the same by looking at each of these names and at each runtime.
 fn check_named<'a>(
     alloc: Global,
     told: &mut Vec<Violation>,
     names: &'a [Named<'a>],
     bodies: &'a [Body<'a>],
 ) -> Result<(), AllocError>
-    ensures { OnOk result (map named_view names.now ≡ flat_map names_at (map body_view bodies.now)
-        → breaches_told told.new ≡ breaches_told told.old
-        ++ (names_in_use (map body_view bodies.now)
-        ++ flat_map (runtime_breaches (map body_view bodies.now)) (map body_view bodies.now))) }
+    ensures { OnOk result (breaches_told told.new ≡ breaches_told told.old
+        ++ (conflicts name_rule [] (map name_claim (map named_view names.now))
+        ++ flat_map (runtimes_among (map named_view names.now) (map body_view bodies.now))
+        (map body_view bodies.now))) }
 {
     let first = check_names(alloc, told, names)?;
     let files = files_of(alloc, bodies)?;
@@ -137,11 +161,11 @@ fn violations_by<'a>(
     ensures { IfOk result (λ v. (all : List BodyParts) → Knows tables.now all →
         breaches_told v ≡ breaches_after all [] (map body_view bodies.now)) }
 {
-    let apart = numbers_are_apart(alloc, bodies)?;
-    if apart {
+    let wanted = doubled_numbers(alloc, bodies)?;
+    if wanted.sorted.is_empty() {
         violations_inside(alloc, tables, bodies)
     } else {
-        violations_in(alloc, tables, bodies)
+        violations_in(alloc, &wanted, tables, bodies)
     }
 }
 
@@ -161,18 +185,20 @@ fn violations_inside<'a>(
     Ok(told)
 }
 
+/// Those where wanted numbers are looked at.
 fn violations_in<'a>(
     alloc: Global,
+    wanted: &KeySet,
     tables: &Tables<'a>,
     bodies: &'a [Body<'a>],
 ) -> Result<Vec<Violation>, AllocError>
-    ensures { IfOk result (λ v. (all : List BodyParts) → Knows tables.now all →
-        breaches_told v ≡ breaches_after all [] (map body_view bodies.now)) }
+    ensures { IfOk result (λ v. (all : List BodyParts) → Knows tables.now all → breaches_told v
+        ≡ breaches_wanted wanted.now.sorted.items all [] (map body_view bodies.now)) }
 {
     let mut told = Vec::new(alloc);
     let mut numbers = BTreeMap::new(alloc);
     'bodies: for body in bodies {
-        check_body(alloc, &mut numbers, &mut told, tables, body)?;
+        check_body(alloc, wanted, &mut numbers, &mut told, tables, body)?;
     }
     Ok(told)
 }
@@ -180,15 +206,17 @@ fn violations_in<'a>(
 /// Tells what is wrong in the body.
 fn check_body<'a>(
     alloc: Global,
+    wanted: &KeySet,
     numbers: &mut Holders<'a>,
     told: &mut Vec<Violation>,
     tables: &Tables<'a>,
     body: &'a Body<'a>,
 ) -> Result<(), AllocError>
     ensures { OnOk result ((all : List BodyParts) → Knows tables.now all →
-        Checks all numbers.old numbers.new told.old told.new (body_view body.now ∷ [])) }
+        Checks wanted.now.sorted.items all numbers.old numbers.new told.old told.new
+        (body_view body.now ∷ [])) }
 {
-    check_numbers(alloc, numbers, told, body)?;
+    check_numbers(alloc, wanted, numbers, told, body)?;
     check_inside(alloc, told, tables, body)
 }
 

@@ -6,5 +6,5 @@ use Rattle.protobuf_parse_rules.proofs.walk.violations_in.Given as goal
 
 abbrev pub invariant-bodies : goal.invariant-bodies
 invariant-bodies l = (all : List BodyParts) → Knows l.tables all →
-    Checks all l.initial.numbers l.numbers l.initial.told l.told
+    Checks l.wanted.sorted.items all l.initial.numbers l.numbers l.initial.told l.told
     (map body_view (take l.body-index l.bodies))
