@@ -1,0 +1,10 @@
+pub mod Sets
+pub mod Through
+pub mod Levels
+pub mod Twice
+pub mod Parts
+pub mod Members
+pub mod Packages
+pub mod Paths
+pub mod Bodies
+pub mod Whole
