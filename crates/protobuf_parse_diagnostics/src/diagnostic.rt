@@ -56,10 +56,10 @@ impl fmt::Display for Diagnostic {
         }
         let severity = self.severity;
         write!(f, ": {severity}: ")?;
-        write_on_line(f, &self.message)?;
+        write_words(f, &self.message)?;
         if let Some(help) = &self.help {
             f.write_str("; ")?;
-            write_on_line(f, help)?;
+            write_words(f, help)?;
         }
         if self.code.is_empty() {
             return Ok(());
@@ -68,6 +68,42 @@ impl fmt::Display for Diagnostic {
         write_on_line(f, &self.code)?;
         f.write_str("]")
     }
+}
+
+/// How many characters of a word are written at most, and how many of these at its beginning.
+const MOST_OF_WORD: usize = 200;
+
+const FRONT_OF_WORD: usize = 100;
+
+/// Writes the text word by word, of a long one its beginning and its end.
+fn write_words<W: fmt::Write>(f: &mut fmt::Formatter<W>, text: &str) -> fmt::Result {
+    for (number, word) in text.split(' ').enumerate() {
+        if number > 0 {
+            f.write_str(" ")?;
+        }
+        write_word(f, word)?;
+    }
+    Ok(())
+}
+
+fn write_word<W: fmt::Write>(f: &mut fmt::Formatter<W>, word: &str) -> fmt::Result {
+    // No word of so few bytes has more characters.
+    if word.len() <= MOST_OF_WORD {
+        return write_on_line(f, word);
+    }
+    let many = word.chars().count();
+    if many <= MOST_OF_WORD {
+        return write_on_line(f, word);
+    }
+    for character in word.chars().take(FRONT_OF_WORD) {
+        write_character(f, character)?;
+    }
+    f.write_str("...")?;
+    let back = MOST_OF_WORD - FRONT_OF_WORD - 3;
+    for character in word.chars().skip(many.saturating_sub(back)) {
+        write_character(f, character)?;
+    }
+    Ok(())
 }
 
 /// Writes the text with each control character as its number: `\u{a}`.

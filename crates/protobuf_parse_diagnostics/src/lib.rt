@@ -3,8 +3,10 @@
 #![tactic(auto)]
 
 mod checks;
+mod context;
 mod declared;
 mod diagnostic;
+mod expected;
 mod faults;
 mod firsts;
 mod fronts;

@@ -71,6 +71,8 @@ pub struct Outline<'a> {
     pub declared: Vec<Declared<'a>>,
     pub ranges: Vec<Ranges<'a>>,
     pub reserved: Vec<ReservedNames<'a>>,
+    /// Where each `extend` begins.
+    pub extends: Vec<Place>,
     /// The number of the next body.
     pub bodies: usize,
 }
@@ -82,6 +84,7 @@ impl<'a> Outline<'a> {
             declared: Vec::new(alloc),
             ranges: Vec::new(alloc),
             reserved: Vec::new(alloc),
+            extends: Vec::new(alloc),
             bodies: 0,
         };
         walk_file(alloc, &mut outline, tree)?;

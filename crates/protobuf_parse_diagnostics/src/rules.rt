@@ -219,6 +219,7 @@ struct Places<'o> {
     ranges: RangePlaces<'o>,
     reserved: ReservedPlaces<'o>,
     first_values: BTreeMap<&'o str, Place>,
+    extends: &'o [Place],
 }
 
 impl<'o> Places<'o> {
@@ -229,6 +230,7 @@ impl<'o> Places<'o> {
             ranges: RangePlaces::of(alloc, &file.outline)?,
             reserved: ReservedPlaces::of(alloc, &file.outline)?,
             first_values: first_values(alloc, &file.outline)?,
+            extends: &file.outline.extends,
         })
     }
 
@@ -241,11 +243,23 @@ impl<'o> Places<'o> {
         }
         for kind in kinds_of(violation.rule) {
             let place = self.declared.nth_place(*kind, &violation.construct, before);
+            if let (Some(place), Rule::ExtendeeNotMessage) = (place, violation.rule) {
+                return Some(self.extend_around(place));
+            }
             if place.is_some() {
                 return place;
             }
         }
         None
+    }
+
+    /// Where the `extend` begins that has the extension at the place: the last before it.
+    fn extend_around(&self, place: Place) -> Place {
+        let before = self
+            .extends
+            .partition_point(|extend| begins_before(extend, &place));
+        let begun = self.extends.get(..before).unwrap_or(&[]);
+        begun.last().copied().unwrap_or(place)
     }
 
     /// The place of the statement, where that declares nothing.
@@ -269,6 +283,11 @@ impl<'o> Places<'o> {
             _ => None,
         }
     }
+}
+
+/// Whether the first place is before the second.
+fn begins_before(first: &Place, second: &Place) -> bool {
+    (first.line, first.col) < (second.line, second.col)
 }
 
 /// The places of the first values of enums, by the full names of these.

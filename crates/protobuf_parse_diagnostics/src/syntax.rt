@@ -3,6 +3,7 @@
 ghost use Rattle.std.specs.Prelude.{◌≡◌};
 ghost use Rattle.protobuf_parse_diagnostics.specs.Codes.{syntax_code_of};
 
+use crate::expected::expected_at;
 use crate::fronts::help_with;
 use crate::paths::{path_code, path_sentence};
 use crate::scan::{Shown, character_at, token_at, word_at};
@@ -170,7 +171,10 @@ fn token_sentence(
 fn unexpected_sentence(alloc: Global, text: &str, place: Place) -> Result<Sentence, AllocError> {
     let token = token_at(text, place);
     let shown = Shown(token);
-    let message = format!(in alloc; "unexpected {shown}")?;
+    let message = match expected_at(alloc, text, place)? {
+        Some(expected) => format!(in alloc; "unexpected {shown}, {expected}")?,
+        None => format!(in alloc; "unexpected {shown}")?,
+    };
     let help = match help_with(text, place, token) {
         Some(help) => Some(String::from_str(alloc, help)?),
         None => None,

@@ -6,7 +6,7 @@ ghost use Rattle.protobuf_parse_diagnostics.specs.Texts.{AreTextsTold, IsTextTol
 
 use crate::diagnostic::{Diagnostic, Severity};
 use crate::rules::{RuleLevel, is_told};
-use protobuf_parse_text_rules::TextViolation;
+use protobuf_parse_text_rules::{TextRule, TextViolation};
 use std::alloc::{AllocError, Global};
 
 /// What is told of these violations in the text of the file that lies there: one of each, in their
@@ -55,19 +55,25 @@ fn diagnostic_of(
     Ok(Diagnostic {
         file: String::from_str(alloc, origin)?,
         place: Some(violation.place),
-        severity: text_severity(level),
+        severity: text_severity(level, violation.rule),
         code: String::from_str(alloc, violation.rule.code())?,
         message: message_of(alloc, violation)?,
-        help: None,
+        help: help_of(alloc, violation.rule)?,
     })
 }
 
-/// How bad it is that a rule of texts is broken: `protoc` takes none of these texts.
-fn text_severity(level: RuleLevel) -> Severity
-    ensures { result ≡ text_severity level }
+/// How bad it is that a rule of texts is broken.
+fn text_severity(level: RuleLevel, rule: TextRule) -> Severity
+    ensures { result ≡ text_severity level rule }
 {
     match level {
-        RuleLevel::Error => Severity::Error,
+        RuleLevel::Error => {
+            if rule.is_warning() {
+                Severity::Warning
+            } else {
+                Severity::Error
+            }
+        }
         RuleLevel::Warn | RuleLevel::Off => Severity::Warning,
     }
 }
@@ -81,4 +87,15 @@ fn message_of(alloc: Global, violation: &TextViolation) -> Result<String, AllocE
     } else {
         format!(in alloc; "`{name}`: {rule}")
     }
+}
+
+/// What helps.
+fn help_of(alloc: Global, rule: TextRule) -> Result<Option<String>, AllocError> {
+    let help = match rule {
+        TextRule::NameResolvedInside => "write the full name, with a dot before it",
+        TextRule::CustomOptionTwice => "only a repeated option can be set once more",
+        TextRule::SyntaxMissing => "write `syntax = \"proto2\";`",
+        _ => return Ok(None),
+    };
+    Ok(Some(String::from_str(alloc, help)?))
 }

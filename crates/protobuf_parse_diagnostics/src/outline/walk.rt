@@ -198,6 +198,7 @@ fn walk_extend<'a>(
     scope: Scope<'_>,
     extend: &'a Extend,
 ) -> Result<(), AllocError> {
+    outline.extends.push(extend.place)?;
     for field in &extend.fields {
         walk_field(alloc, outline, scope, DeclaredKind::Extension, field)?;
     }
