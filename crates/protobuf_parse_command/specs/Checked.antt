@@ -34,8 +34,8 @@ AreTextRulesTold at [] = Unit {0}
 AreTextRulesTold at (d ∷ ds) = IsTextRuleTold at d × AreTextRulesTold at ds
 
 -- The check was done. Told is what was told before it, each of its faults, those behind the first of
--- each text that has no tree, and violations: those of texts, of files that are not sound, and of
--- sound ones. All is put in order; the files are the sound ones.
+-- each text that has no tree, and violations: those of texts, of files that are not sound, of sound
+-- ones, and of the names and constants of these. All is put in order; the files are the sound ones.
 pub record IsChecked (eq : Diagnostic → Diagnostic → Bool) (at : RuleLevel)
     (before : List Diagnostic) (inputs : List ProtoPathBuf) (result : Result Check AllocError)
     (checked : Checked) : Type 0 where
@@ -52,7 +52,10 @@ pub record IsChecked (eq : Diagnostic → Diagnostic → Bool) (at : RuleLevel)
   pub unsound_told : AreRulesTold at unsound
   pub rules : List Diagnostic
   pub rules_told : AreRulesTold at rules
-  pub told : IsArranged eq (((((before ++ faults) ++ later) ++ texts) ++ unsound) ++ rules)
+  pub names : List Diagnostic
+  pub names_told : AreTextRulesTold at names
+  pub told : IsArranged eq
+      ((((((before ++ faults) ++ later) ++ texts) ++ unsound) ++ rules) ++ names)
       checked.told.items
   pub files : checked.files.items ≡ map descriptor_in (filter is_sound check.files.items)
   pub named : checked.inputs.items ≡ inputs

@@ -14,14 +14,15 @@ use Rattle.protobuf_parse_diagnostics.specs.declared.diagnostic.Severity.{Severi
 use Rattle.protobuf_parse_diagnostics.specs.declared.diagnostic.Severity.TheVariants as severity
 use Rattle.protobuf_parse_command.specs.declared.arguments.Arguments.{Arguments}
 
--- whether it is that of an error
-abbrev pub is_error_severity : Severity → Bool
-is_error_severity severity.Error = true
-is_error_severity severity.Warning = false
+-- whether nothing is written where it is told: that of an error, or of a warning where these are as
+-- bad
+abbrev pub is_fatal_severity : (fatal_warnings : Bool) → Severity → Bool
+is_fatal_severity fatal_warnings severity.Error = true
+is_fatal_severity fatal_warnings severity.Warning = fatal_warnings
 
--- whether what is told is an error
-abbrev pub is_error : Diagnostic → Bool
-is_error d = is_error_severity d.severity
+-- whether nothing is written where this is told
+abbrev pub is_fatal : (fatal_warnings : Bool) → Diagnostic → Bool
+is_fatal fatal_warnings d = is_fatal_severity fatal_warnings d.severity
 
 -- the files of the set: with imports all, and else those whose name is the proto path of an input,
 -- in their order

@@ -1,9 +1,11 @@
 //! The command line.
 
 use clap::builder::ValueParser;
+use clap::error::ErrorKind;
 use clap::{Arg, ArgAction, ArgMatches, Command, Error};
 use protobuf_parse_diagnostics::RuleLevel;
 use std::alloc::{AllocError, Global};
+use std::collections::BTreeSet;
 
 /// What the command line says.
 #[derive(Drop)]
@@ -18,11 +20,18 @@ pub struct Arguments {
     pub list: bool,
     pub imports: bool,
     pub rules: RuleLevel,
+    /// The codes of rules that are not told.
+    pub rules_off: BTreeSet<String>,
     /// Whether rules are told of the files alone, and not of what they import.
     pub rules_of_files: bool,
+    /// Whether a warning is as bad as an error.
+    pub fatal_warnings: bool,
 }
 
-const LEVELS: [&str; 3] = ["error", "warn", "off"];
+/// How many rules of descriptors and of texts there are.
+const RULES: u32 = 55;
+
+const TEXT_RULES: u32 = 19;
 
 const WHOSE_RULES: [&str; 2] = ["all", "files"];
 
@@ -30,7 +39,63 @@ const WHOSE_RULES: [&str; 2] = ["all", "files"];
 /// help and the version too.
 pub fn arguments_of(alloc: Global, words: &[String]) -> Result<Arguments, Error> {
     let matches = command_line(alloc)?.try_get_matches_from(words)?;
-    Ok(read(alloc, &matches)?)
+    let asked = matches.get_strs("rules").unwrap_or(&[]);
+    match rules_asked(alloc, asked)? {
+        Ok(rules) => Ok(read(alloc, &matches, rules)?),
+        Err(word) => {
+            let message = format!(in alloc;
+                "invalid value '{word}' for '--rules <WHAT>': it is `error`, `warn`, `off`, or the \
+                 code of a rule with `=off` behind it"
+            )?;
+            Err(command_line(alloc)?.error(ErrorKind::InvalidValue, &message)?)
+        }
+    }
+}
+
+/// How rules are told.
+#[derive(Drop)]
+struct RulesAsked {
+    level: RuleLevel,
+    off: BTreeSet<String>,
+}
+
+/// What the words behind `--rules` ask for, the last level of several; or one that asks for nothing.
+fn rules_asked<'a>(
+    alloc: Global,
+    words: &[&'a str],
+) -> Result<Result<RulesAsked, &'a str>, AllocError> {
+    let mut level = RuleLevel::Error;
+    let mut off = BTreeSet::new(alloc);
+    for word in words {
+        match *word {
+            "error" => level = RuleLevel::Error,
+            "warn" => level = RuleLevel::Warn,
+            "off" => level = RuleLevel::Off,
+            other => match other.strip_suffix("=off") {
+                Some(code) if is_code(code) => {
+                    off.insert(String::from_str(alloc, code)?)?;
+                }
+                _ => return Ok(Err(other)),
+            },
+        }
+    }
+    Ok(Ok(RulesAsked { level, off }))
+}
+
+/// Whether it is the code of a rule.
+fn is_code(word: &str) -> bool {
+    let (digits, most) = match (word.strip_prefix('C'), word.strip_prefix('T')) {
+        (Some(digits), _) => (digits, RULES),
+        (None, Some(digits)) => (digits, TEXT_RULES),
+        (None, None) => return false,
+    };
+    if digits.starts_with('0') || digits.starts_with('+') {
+        return false;
+    }
+    match digits.parse::<u32>() {
+        Ok(number) => 1 <= number && number <= most,
+        Err(_) => false,
+    }
 }
 
 fn command_line<'a>(alloc: Global) -> Result<Command<'a>, AllocError> {
@@ -76,11 +141,12 @@ fn file_argument<'a>(alloc: Global) -> Arg<'a> {
 fn with_flags<'a>(alloc: Global, command: Command<'a>) -> Result<Command<'a>, AllocError> {
     let rules = Arg::new(alloc, "rules")
         .long("rules")
-        .value_name("LEVEL")
-        .action(ArgAction::Set)
-        .value_parser(ValueParser::Names(&LEVELS))
-        .default_value("error")
-        .help("How violations of rules are told");
+        .value_name("WHAT")
+        .action(ArgAction::Append)
+        .help(
+            "How violations of rules are told: `error`, `warn` or `off`; `C48=off`: one of them not",
+        );
+    let fatal = "Ends with status 1 and writes nothing where a warning is told, too";
     command
         .arg(flag(
             alloc,
@@ -90,7 +156,8 @@ fn with_flags<'a>(alloc: Global, command: Command<'a>) -> Result<Command<'a>, Al
         .arg(flag(alloc, "list", "Lists the descriptors as text"))?
         .arg(imports_flag(alloc)?)?
         .arg(rules)?
-        .arg(rules_of_argument(alloc))
+        .arg(rules_of_argument(alloc))?
+        .arg(flag(alloc, "fatal_warnings", fatal))
 }
 
 fn rules_of_argument<'a>(alloc: Global) -> Arg<'a> {
@@ -120,7 +187,12 @@ fn imports_flag<'a>(alloc: Global) -> Result<Arg<'a>, AllocError> {
         .conflicts_with("list")
 }
 
-fn read(alloc: Global, matches: &ArgMatches<'_>) -> Result<Arguments, AllocError> {
+fn read(
+    alloc: Global,
+    matches: &ArgMatches<'_>,
+    rules: RulesAsked,
+) -> Result<Arguments, AllocError> {
+    let RulesAsked { level, off } = rules;
     let mut includes = copies(alloc, matches.get_strs("include").unwrap_or(&[]))?;
     if includes.is_empty() {
         includes.push(String::new(alloc))?;
@@ -136,8 +208,10 @@ fn read(alloc: Global, matches: &ArgMatches<'_>) -> Result<Arguments, AllocError
         include_imports: matches.get_flag("include_imports"),
         list: matches.get_flag("list"),
         imports: matches.get_flag("imports"),
-        rules: level_of(matches.get_str("rules").unwrap_or("error")),
+        rules: level,
+        rules_off: off,
         rules_of_files: matches.get_str("rules_of") == Some("files"),
+        fatal_warnings: matches.get_flag("fatal_warnings"),
     })
 }
 
@@ -147,12 +221,4 @@ fn copies(alloc: Global, texts: &[&str]) -> Result<Vec<String>, AllocError> {
         copies.push(String::from_str(alloc, text)?)?;
     }
     Ok(copies)
-}
-
-fn level_of(word: &str) -> RuleLevel {
-    match word {
-        "warn" => RuleLevel::Warn,
-        "off" => RuleLevel::Off,
-        _ => RuleLevel::Error,
-    }
 }

@@ -4,7 +4,9 @@ ghost use Rattle.std.specs.Prelude.{IfOk};
 ghost use Rattle.protobuf_parse_command.specs.Checked.{IsChecked};
 
 use crate::arguments::Arguments;
+use crate::folders::tell_missing_folders;
 use crate::inputs::input_of;
+use crate::names::told_names;
 use crate::reading::Folders;
 use crate::rules::{RuleFiles, told_rules, told_texts};
 use crate::sound::{SoundFiles, sound_files};
@@ -35,6 +37,7 @@ pub fn check_files<R: Files + AllocGlobal>(
     arguments: &Arguments,
 ) -> Result<Checked, AllocError> {
     let mut told = Vec::new(alloc);
+    tell_missing_folders(rt, alloc, &arguments.includes, &mut told)?;
     let given = inputs_of(rt, alloc, arguments, &mut told)?;
     let inputs = names_of(alloc, &given)?;
     let folders = Folders::of(rt, alloc, &arguments.includes)?;
@@ -45,7 +48,7 @@ pub fn check_files<R: Files + AllocGlobal>(
 /// What is known of a command line before its files are read.
 #[derive(Drop)]
 struct Given {
-    /// What is told of files that are no inputs.
+    /// What is told of folders that aren't there, and of files that are no inputs.
     told: Vec<Diagnostic>,
     /// The proto paths of the inputs.
     inputs: Vec<ProtoPathBuf>,
@@ -78,6 +81,7 @@ fn checked_of<W: Reasons>(
         inputs: &inputs,
     };
     told.append(&mut told_rules(alloc, arguments, &sources, &held)?)?;
+    told.append(&mut told_names(alloc, arguments, &sources, &held)?)?;
     arrange(&mut told)?;
     Ok(Checked {
         told,

@@ -3,9 +3,11 @@
 
 mod arguments;
 mod check;
+mod folders;
 mod inputs;
 mod listed;
 mod made;
+mod names;
 mod reading;
 mod rules;
 mod run;

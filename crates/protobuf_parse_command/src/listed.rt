@@ -1,6 +1,7 @@
 //! What files import, with no other file read.
 
 use crate::arguments::Arguments;
+use crate::folders::tell_missing_folders;
 use crate::inputs::input_of;
 use crate::reading::Folders;
 use protobuf_parse::{ReadEntry, RunFault, RunInput, google_files};
@@ -30,6 +31,7 @@ pub fn imports_of_files<R: Files + AllocGlobal>(
         told: Vec::new(alloc),
         text: String::new(alloc),
     };
+    tell_missing_folders(rt, alloc, &arguments.includes, &mut imports.told)?;
     for file in &arguments.files {
         match input_of(rt, alloc, &arguments.includes, file)? {
             Ok(input) => add_input(alloc, &folders, file, &input, &mut imports)?,

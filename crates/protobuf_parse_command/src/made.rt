@@ -2,12 +2,12 @@
 
 ghost use Rattle.std.specs.Prelude.{◌≡◌, IfOk, None, [], true, false, string_bytes};
 ghost use Rattle.std.specs.List.{list_any};
-ghost use Rattle.protobuf_parse_command.specs.Made.{IsSetAsked, is_error};
+ghost use Rattle.protobuf_parse_command.specs.Made.{IsSetAsked, is_fatal};
 
 use crate::arguments::Arguments;
 use crate::check::{Checked, check_files};
 use crate::listed::{Imports, imports_of_files};
-use crate::told::{has_error, lines_of};
+use crate::told::{has_fatal, lines_of};
 use protobuf_parse::{FileDescriptorProto, ProtoPathBuf, files_of_inputs, listing};
 use protobuf_parse_descriptor_set::descriptor_set;
 use std::alloc::{AllocError, Global};
@@ -18,7 +18,8 @@ use std::rt::Files;
 pub struct Made {
     /// The lines on standard error.
     pub told: String,
-    /// Whether an error is among them. Then nothing else is written.
+    /// Whether an error is among them, or a warning where these are as bad. Then nothing else is
+    /// written.
     pub has_error: bool,
     /// The bytes of the descriptor set, where one is asked for.
     pub set: Option<Vec<u8>>,
@@ -47,7 +48,7 @@ fn make_imports<R: Files + AllocGlobal>(
     arguments: &Arguments,
 ) -> Result<Made, AllocError> {
     let Imports { told, text } = imports_of_files(rt, alloc, arguments)?;
-    let has_error = has_error(&told);
+    let has_error = has_fatal(&told, arguments.fatal_warnings);
     Ok(Made {
         told: lines_of(alloc, &told)?,
         has_error,
@@ -59,7 +60,8 @@ fn make_imports<R: Files + AllocGlobal>(
 /// What is made of a check: the lines of what is told; where no error is, the set and the listing,
 /// each if it is asked for.
 pub fn made_of(alloc: Global, arguments: &Arguments, checked: Checked) -> Result<Made, AllocError>
-    ensures error { IfOk result (λ made. made.has_error ≡ list_any is_error checked.told.items) }
+    ensures error { IfOk result (λ made. made.has_error
+        ≡ list_any (is_fatal arguments.now.fatal_warnings) checked.told.items) }
     ensures silent { IfOk result (λ made. made.has_error ≡ true
         → (made.set ≡ None) × (string_bytes made.text ≡ [])) }
     ensures set { IfOk result (λ made. made.has_error ≡ false
@@ -73,7 +75,7 @@ pub fn made_of(alloc: Global, arguments: &Arguments, checked: Checked) -> Result
         inputs,
     } = checked;
     let lines = lines_of(alloc, &told)?;
-    if has_error(&told) {
+    if has_fatal(&told, arguments.fatal_warnings) {
         return Ok(Made {
             told: lines,
             has_error: true,

@@ -53,9 +53,15 @@ fn told_violations(
     let mut all = violations_in(alloc, held.files)?;
     let inputs = paths_of(alloc, held.inputs)?;
     all.retain(|violation| {
-        is_told_of(violation, arguments) || inputs.contains(violation.file.as_str())
+        is_asked(violation.rule.code(), arguments)
+            && (is_told_of(violation, arguments) || inputs.contains(violation.file.as_str()))
     });
     Ok(all)
+}
+
+/// Whether violations of the rule of that code are told.
+pub fn is_asked(code: &str, arguments: &Arguments) -> bool {
+    !arguments.rules_off.contains(code)
 }
 
 /// All violations in the files, in no order: of two messages of one name each has its own numbers.
@@ -106,34 +112,67 @@ pub fn told_texts(
     }
     let inputs = paths_of(alloc, inputs)?;
     for report in &check.files {
-        if !arguments.rules_of_files || inputs.contains(report.path.as_str()) {
-            tell_texts(alloc, &mut told, arguments, sources, report)?;
-        }
+        let asked = TextsAsked::of(arguments, &inputs, &report.path);
+        tell_texts(alloc, &mut told, asked, sources, report)?;
     }
     for file in &check.unread {
-        if !arguments.rules_of_files || inputs.contains(file.path.as_str()) {
-            tell_rest(alloc, &mut told, arguments, sources, file)?;
-        }
+        let asked = TextsAsked::of(arguments, &inputs, &file.path);
+        tell_rest(alloc, &mut told, asked, sources, file)?;
     }
     Ok(told)
+}
+
+/// Which rules of texts are told of a file.
+#[derive(Clone, Copy)]
+pub struct TextsAsked<'a> {
+    pub arguments: &'a Arguments,
+    is_input: bool,
+}
+
+impl<'a> TextsAsked<'a> {
+    /// Of the file of this proto path.
+    pub fn of(arguments: &'a Arguments, inputs: &BTreeSet<&str>, path: &str) -> Self
+        ensures { result.arguments.now ≡ arguments.now }
+    {
+        TextsAsked {
+            arguments,
+            is_input: inputs.contains(path),
+        }
+    }
+
+    /// Whether any is told of it.
+    pub fn asks(&self) -> bool {
+        self.is_input || !self.arguments.rules_of_files
+    }
+
+    /// Whether the rule is told of it: that a file has no `syntax` statement is for who works on it.
+    pub fn has(&self, rule: TextRule) -> bool {
+        let is_meant = self.is_input || !matches!(rule, TextRule::SyntaxMissing);
+        self.asks() && is_meant && is_asked(rule.code(), self.arguments)
+    }
 }
 
 /// Tells those of the file of the report.
 fn tell_texts(
     alloc: Global,
     told: &mut Vec<Diagnostic>,
-    arguments: &Arguments,
+    asked: TextsAsked<'_>,
     sources: &Sources<'_>,
     report: &FileReport,
 ) -> Result<(), AllocError>
-    ensures { AreTextRulesTold arguments.now.rules told.old.items
-        → OnOk result (AreTextRulesTold arguments.now.rules told.new.items) }
+    ensures { AreTextRulesTold asked.arguments.now.rules told.old.items
+        → OnOk result (AreTextRulesTold asked.arguments.now.rules told.new.items) }
 {
+    if !asked.asks() {
+        return Ok(());
+    }
     let Some(source) = sources.of_path(&report.path) else {
         return Ok(());
     };
-    let found = text_violations(alloc, source.text, &report.tree)?;
-    told.append(&mut text_rule_diagnostics(alloc, source.origin, &found, arguments.rules)?)?;
+    let mut found = text_violations(alloc, source.text, &report.tree)?;
+    found.retain(|violation| asked.has(violation.rule));
+    let level = asked.arguments.rules;
+    told.append(&mut text_rule_diagnostics(alloc, source.origin, &found, level)?)?;
     Ok(())
 }
 
@@ -142,13 +181,16 @@ fn tell_texts(
 fn tell_rest(
     alloc: Global,
     told: &mut Vec<Diagnostic>,
-    arguments: &Arguments,
+    asked: TextsAsked<'_>,
     sources: &Sources<'_>,
     file: &UnreadFile,
 ) -> Result<(), AllocError>
-    ensures { AreTextRulesTold arguments.now.rules told.old.items
-        → OnOk result (AreTextRulesTold arguments.now.rules told.new.items) }
+    ensures { AreTextRulesTold asked.arguments.now.rules told.old.items
+        → OnOk result (AreTextRulesTold asked.arguments.now.rules told.new.items) }
 {
+    if !asked.asks() {
+        return Ok(());
+    }
     let RunFault::Parse(_, _) = &file.fault else {
         return Ok(());
     };
@@ -160,8 +202,11 @@ fn tell_rest(
         return Ok(());
     };
     let mut found = text_violations(alloc, &rest.text, &rest.tree)?;
-    found.retain(|violation| !matches!(violation.rule, TextRule::ExtendWithoutFields));
-    told.append(&mut text_rule_diagnostics(alloc, source.origin, &found, arguments.rules)?)?;
+    found.retain(|violation| {
+        !matches!(violation.rule, TextRule::ExtendWithoutFields) && asked.has(violation.rule)
+    });
+    let level = asked.arguments.rules;
+    told.append(&mut text_rule_diagnostics(alloc, source.origin, &found, level)?)?;
     Ok(())
 }
 

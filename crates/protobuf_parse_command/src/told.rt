@@ -2,7 +2,7 @@
 
 ghost use Rattle.std.specs.Prelude.{◌≡◌};
 ghost use Rattle.std.specs.List.{list_any};
-ghost use Rattle.protobuf_parse_command.specs.Made.{is_error};
+ghost use Rattle.protobuf_parse_command.specs.Made.{is_fatal};
 
 use protobuf_parse_diagnostics::{Diagnostic, Severity};
 use std::alloc::{AllocError, Global};
@@ -10,16 +10,25 @@ use std::alloc::{AllocError, Global};
 /// How many diagnostics are told.
 const MOST_TOLD: usize = 1000;
 
-/// Whether one of them is an error.
-pub fn has_error(told: &[Diagnostic]) -> bool
-    ensures { result ≡ list_any is_error told.now }
+/// Whether one of them is an error, or a warning where these are as bad.
+pub fn has_fatal(told: &[Diagnostic], fatal_warnings: bool) -> bool
+    ensures { result ≡ list_any (is_fatal fatal_warnings) told.now }
 {
     for each in told {
-        if each.severity == Severity::Error {
+        if is_fatal(each, fatal_warnings) {
             return true;
         }
     }
     false
+}
+
+fn is_fatal(told: &Diagnostic, fatal_warnings: bool) -> bool
+    ensures { result ≡ is_fatal fatal_warnings told.now }
+{
+    match told.severity {
+        Severity::Error => true,
+        Severity::Warning => fatal_warnings,
+    }
 }
 
 /// A line for each of the first 1,000, and then one that says how many more there are.

@@ -43,7 +43,7 @@ fn writes_sets(rt: HostRuntime) -> Result<(), Fail> {
     let set = own_path(&rt, "set.pb")?;
     fs::write(&rt, apple.as_str(), b"syntax = 'proto3'; message Apple {}")?;
     let text = format!(in rt.alloc();
-        "import '{apple}'; message Crate {{ repeated Apple a = 1; }}"
+        "syntax = 'proto2'; import '{apple}'; message Crate {{ repeated Apple a = 1; }}"
     )?;
     fs::write(&rt, banana.as_str(), text.as_bytes())?;
     let (own, all) = sets_of(&rt, &banana)?;
@@ -64,7 +64,9 @@ fn writes_sets(rt: HostRuntime) -> Result<(), Fail> {
 
     // Where a fault is told, it stays as it was.
     fs::write(&rt, apple.as_str(), b"message Apple {")?;
-    let line = format!(in rt.alloc(); "{apple}:1:16: error: unexpected end of file [S8]\n")?;
+    let line = format!(in rt.alloc();
+        "{apple}:1:16: error: unexpected end of file, expected a statement or `}}` [S8]\n"
+    )?;
     expect(&rt, &run(&rt, &["-o", &set, &banana])?, 1, "", &line);
     assert_eq!(rt; fs::read(&rt, set.as_str())?.as_slice(), all.as_slice());
     for path in [&apple, &banana, &set] {
@@ -77,7 +79,7 @@ fn writes_sets(rt: HostRuntime) -> Result<(), Fail> {
 fn tells_where_no_set_can_be(rt: HostRuntime) -> Result<(), Fail> {
     let path = own_path(&rt, "unset.proto")?;
     let folder = own_path(&rt, "unset")?;
-    fs::write(&rt, path.as_str(), b"")?;
+    fs::write(&rt, path.as_str(), b"syntax = 'proto2';")?;
     fs::create_dir(&rt, folder.as_str())?;
     let line = format!(in rt.alloc();
         "protobuf_parse_cli: error: could not write `{folder}`: is a directory\n"
@@ -102,11 +104,15 @@ fn tells_where_no_set_can_be(rt: HostRuntime) -> Result<(), Fail> {
 
 #[test]
 fn tells_of_wrong_words(rt: HostRuntime) -> Result<(), Fail> {
-    let wrong: [&[&str]; 5] = [
+    let wrong: [&[&str]; 9] = [
         &[],
         &["--list"],
         &["--lists", "a.proto"],
         &["--rules=never", "a.proto"],
+        &["--rules=C56=off", "a.proto"],
+        &["--rules=T0=off", "a.proto"],
+        &["--rules=S8=off", "a.proto"],
+        &["--rules=C48", "a.proto"],
         &["--imports", "--list", "a.proto"],
     ];
     for args in wrong {
@@ -149,7 +155,7 @@ fn count_lines(bytes: &[u8]) -> usize {
 #[test]
 fn tells_all_that_is_missing(rt: HostRuntime) -> Result<(), Fail> {
     let path = own_path(&rt, "lost.proto")?;
-    let mut text = String::new(rt.alloc());
+    let mut text = String::from_str(rt.alloc(), "syntax = 'proto2'; ")?;
     for i in 0..150u32 {
         write!(text, "import 'protobuf_parse_lost/{i}.proto';\n")?;
     }
@@ -172,7 +178,11 @@ fn tells_what_stands_in_each_file(rt: HostRuntime) -> Result<(), Fail> {
     for i in 100..220u32 {
         let name = format!(in rt.alloc(); "twice_{i}.proto")?;
         let path = own_path(&rt, &name)?;
-        fs::write(&rt, path.as_str(), b"message M {} message M {}")?;
+        fs::write(
+            &rt,
+            path.as_str(),
+            b"syntax = 'proto2';\nmessage M {} message M {}",
+        )?;
         paths.push(path)?;
     }
     let mut args: Vec<&str> = Vec::new(rt.alloc());
@@ -181,7 +191,7 @@ fn tells_what_stands_in_each_file(rt: HostRuntime) -> Result<(), Fail> {
         args.push(path.as_str())?;
         write!(
             want,
-            "{path}:1:14: error: the type \"M\" is declared twice; it stands at {path}:1:1 too [E5]\n"
+            "{path}:2:14: error: the type \"M\" is declared twice; it stands at {path}:2:1 too [E5]\n"
         )?;
     }
     let outcome = run(&rt, &args)?;
@@ -205,7 +215,8 @@ fn tells_what_is_wrong_beside_what_is_missing(rt: HostRuntime) -> Result<(), Fai
     )?;
     fs::write(&rt, lost.as_str(), text.as_bytes())?;
     let text = format!(in alloc;
-        "import '{lost}';\nimport 'protobuf_parse_lost.proto';\nmessage O {{ optional L l = 1; }}"
+        "syntax = 'proto2'; import '{lost}';\nimport 'protobuf_parse_lost.proto';\n\
+         message O {{ optional L l = 1; }}"
     )?;
     fs::write(&rt, over.as_str(), text.as_bytes())?;
     let outcome = run(&rt, &[&over])?;

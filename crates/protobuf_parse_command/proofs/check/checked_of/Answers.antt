@@ -12,11 +12,13 @@ returns g c =
     let texts = c.in_ok-told_texts.field-0.items in
     let unsound = c.in_ok-unsound.unsound.items in
     let rules = c.in_ok-told_rules.field-0.items in
-    let added = c.in_ok-append-5.ensures.items
+    let names = c.in_ok-told_names.field-0.items in
+    let added = c.in_ok-append-6.ensures.items
+    ∙ ap (λ (z : List Diagnostic). z ++ names) (c.in_ok-append-5.ensures.items
     ∙ ap (λ (z : List Diagnostic). z ++ rules) (c.in_ok-append-4.ensures.items
     ∙ ap (λ (z : List Diagnostic). z ++ unsound) (c.in_ok-append-3.ensures.items
     ∙ ap (λ (z : List Diagnostic). z ++ texts) (c.in_ok-append-2.ensures.items
-    ∙ ap (λ (z : List Diagnostic). z ++ later) c.in_ok-append.ensures.items))) in
+    ∙ ap (λ (z : List Diagnostic). z ++ later) c.in_ok-append.ensures.items)))) in
     record {
       check = c.in_ok-check.check;
       done = c.in_ok-check.was;
@@ -32,6 +34,8 @@ returns g c =
       unsound_told = c.in_ok-unsound.ensures;
       rules = rules;
       rules_told = c.in_ok-told_rules.ensures;
+      names = names;
+      names_told = c.in_ok-told_names.ensures;
       told = subst (λ (z : List Diagnostic). IsArranged _ z c.arrange.new.diagnostics.items) added
           c.in_ok-arrange.ensures;
       files = c.in_ok-files.ensures.files;

@@ -7,7 +7,7 @@ use Rattle.protobuf_parse_command.proofs.rules.tell_rest.Goals as goal
 
 pub returns : goal.returns
 returns c = λ before.
-    let level = c.args.arguments.now.rules in
+    let level = c.args.asked.arguments.now.rules in
     let texts : List Diagnostic = c.in_ok-text_rule_diagnostics.field-0.items in
     subst (λ (ds : List Diagnostic). AreTextRulesTold level ds) (sym c.in_ok-append.ensures.items)
     (more_texts level c.args.told.now.items texts before

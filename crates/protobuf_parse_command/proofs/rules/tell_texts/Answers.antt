@@ -7,9 +7,9 @@ use Rattle.protobuf_parse_command.proofs.rules.tell_texts.Goals as goal
 
 pub returns : goal.returns
 returns c = λ before.
-    let level = c.args.arguments.now.rules in
+    let level = c.args.asked.arguments.now.rules in
     let texts : List Diagnostic = c.in_ok-text_rule_diagnostics.field-0.items in
     subst (λ (ds : List Diagnostic). AreTextRulesTold level ds) (sym c.in_ok-append.ensures.items)
     (more_texts level c.args.told.now.items texts before
-    (of_text level c.in-Some.source.now.origin.now (told_at_level level c.deref-2.result.now) texts
+    (of_text level _ (told_at_level level _) texts
     c.in_ok-text_rule_diagnostics.ensures))
