@@ -14,6 +14,8 @@ CODE = re.compile(r"[SPELBCT][0-9]+")
 
 def codes_of_code():
     found = []
+    for file in sorted(Path("crates/protobuf_parse_command/src").rglob("*.rt")):
+        found += re.findall(r'^const [A-Z_]+: &str = "([SPELBCT][0-9]+)";', file.read_text(), re.M)
     for crate in ("protobuf_parse_diagnostics", "protobuf_parse_rules", "protobuf_parse_text_rules"):
         for file in sorted((Path("crates") / crate / "src").rglob("*.rt")):
             found += re.findall(r'=> "([SPELBCT][0-9]+)"', file.read_text())

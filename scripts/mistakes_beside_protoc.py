@@ -29,8 +29,9 @@ PROGRAM = Path("crates/protobuf_parse_cli/out/protobuf_parse_cli")
 LINE = re.compile(r"^(?P<file>[^:\n]*):(?:(?P<line>\d+):(?P<col>\d+):)? (?P<text>.*)$", re.M)
 # Lines that go with another one, or that only name files: a sum of what was said at the imported file.
 AFTER = re.compile(
-    r"Note that enum values|had errors|not found or had|seems to be defined in|uggested field|File not found"
+    r"Note that enum values|had errors|seems to be defined in|uggested field|File not found"
 )
+IMPORT = re.compile(r'^Import "(?P<path>.*)" was not found or had errors')
 SETS = {"one": mistaken.one, "some": mistaken.some, "behind": mistaken.behind}
 
 
@@ -42,15 +43,21 @@ ELSEWHERE = [
     (re.compile(r"is reserved multiple times"), "C38"),
     (re.compile(r"^Extension range .* includes field"), "C31"),
     (re.compile(r"^Extension range .* overlaps with"), "C39"),
+    (re.compile(r"^map_entry should not be set explicitly"), "T8"),
 ]
 CODE = re.compile(r"\[([A-Z]\d+)\]$")
 
 
 def told(text, folder):
-    """What is told as errors, in order: of each the file, the line and the text."""
+    """What is told as errors, in order: of each the file, the line and the text. An import that is
+    not found is told at its statement; one that has errors only goes with these."""
     errors = []
+    missing = set(re.findall(r"^(.*): File not found\.$", text, re.M))
     for found in LINE.finditer(text.replace(f"{folder}/", "")):
         said = found["text"]
+        behind = IMPORT.match(said)
+        if behind and behind["path"] not in missing:
+            continue
         if "warning" not in said[:12] and not AFTER.search(said):
             errors.append((found["file"].removeprefix("./"), found["line"], said))
     return list(dict.fromkeys(errors))

@@ -5,11 +5,15 @@ use super::texts::without_last_feed;
 use crate::cases::{Case, CaseFile, Row};
 use crate::files::Files;
 use anyhow::Result;
-use protobuf_parse::{CheckLog, FileReport, ProtoPathBuf, RunInput, bundled_files, check_inputs};
+use protobuf_parse::{
+    CheckLog, FileDescriptorProto, FileReport, ProtoPathBuf, RunInput, bundled_files, check_inputs,
+};
 use protobuf_parse_diagnostics::{
     Diagnostic, NoReasons, RuleLevel, Source, Sources, arrange, check_diagnostics,
     later_diagnostics, rule_diagnostics, text_rule_diagnostics,
 };
+use protobuf_parse_index::Index;
+use protobuf_parse_name_rules::{NameFiles, name_violations};
 use protobuf_parse_rules::violations;
 use protobuf_parse_syntax::parse_file;
 use protobuf_parse_text_rules::text_violations;
@@ -17,8 +21,9 @@ use std::alloc::{AllocError, Global};
 
 /// What is told of the inputs behind the verb, with the files that the library brings: a line for
 /// each fault that a check finds, and each further one of a text that has no tree; where it finds
-/// none, for each violation of a rule, those of texts too; or nothing. A row's text is the file
-/// `f.proto`, beside the files of the case, and is then the input.
+/// none, for each violation of a rule, those of texts too, and those of names, where each file sees
+/// all others; or nothing. That a text has no `syntax` statement is not told. A row's text is the
+/// file `f.proto`, beside the files of the case, and is then the input.
 pub fn told(alloc: Global, case: &Case, row: &Row) -> Result<String> {
     let Some(content) = &row.given else {
         return Ok(told_of(alloc, &case.argument, &case.files)?);
@@ -71,11 +76,30 @@ fn told_of_rules(
     let level = RuleLevel::Error;
     let found = violations(alloc, &files)?;
     let mut told = rule_diagnostics(alloc, sources, &found, level)?;
+    let index = Index::of(alloc, &files)?;
+    let seen = names_of(alloc, &files)?;
+    let names = NameFiles {
+        index: &index,
+        seen: &seen,
+    };
     for Source { origin, text, .. } in sources.files() {
         if let Ok(tree) = parse_file(alloc, text) {
-            let found = text_violations(alloc, text, &tree)?;
+            let mut found = text_violations(alloc, text, &tree)?;
+            found.retain(|violation| !violation.rule.is_warning());
+            found.append(&mut name_violations(alloc, &names, &tree)?)?;
             told.append(&mut text_rule_diagnostics(alloc, origin, &found, level)?)?;
         }
     }
     Ok(told)
+}
+
+/// The names of the files.
+fn names_of(alloc: Global, files: &[FileDescriptorProto]) -> Result<Vec<&str>, AllocError> {
+    let mut names = Vec::new(alloc);
+    for file in files {
+        if let Some(name) = &file.name {
+            names.push(name.as_str())?;
+        }
+    }
+    Ok(names)
 }
