@@ -15,9 +15,9 @@ from pathlib import Path
 
 PAGE = Path("docs/definitions.md")
 MARK = "-- No public clause rests on this file.\n"
-CRATES = "base grammar lexer syntax recovery text_rules comments source_info records".split()
+CRATES = "base grammar lexer syntax recovery expected text_rules comments source_info records".split()
 CRATES += "model elaboration wire options".split()
-CRATES += "descriptor_set set_reader set_rules set_laws listing rules index".split()
+CRATES += "descriptor_set set_reader set_rules set_laws listing rules index name_rules".split()
 CRATES += "google run load check".split() + [""]
 CRATES += "diagnostics files command".split()
 # Parts of a run that the load and the check share with it: no caller has a use for them.

@@ -52,8 +52,8 @@ fn tell_names(
     files: &NameFiles<'_, '_>,
     tree: &NamedTree,
 ) -> Result<(), AllocError>
-    ensures { AreTextRulesTold asked.arguments.now.rules told.old.items
-        → OnOk result (AreTextRulesTold asked.arguments.now.rules told.new.items) }
+    ensures { AreTextRulesTold asked.entry.arguments.now.rules told.old.items
+        → OnOk result (AreTextRulesTold asked.entry.arguments.now.rules told.new.items) }
 {
     if !asked.asks() {
         return Ok(());

@@ -1,6 +1,6 @@
 //! Which violations of rules are told.
 
-ghost use Rattle.std.specs.Prelude.{IfOk, OnOk};
+ghost use Rattle.std.specs.Prelude.{◌≡◌, IfOk, OnOk};
 ghost use Rattle.protobuf_parse_command.specs.Checked.{AreRulesTold, AreTextRulesTold};
 
 use crate::arguments::Arguments;
@@ -160,8 +160,8 @@ fn tell_texts(
     sources: &Sources<'_>,
     report: &FileReport,
 ) -> Result<(), AllocError>
-    ensures { AreTextRulesTold asked.arguments.now.rules told.old.items
-        → OnOk result (AreTextRulesTold asked.arguments.now.rules told.new.items) }
+    ensures { AreTextRulesTold asked.entry.arguments.now.rules told.old.items
+        → OnOk result (AreTextRulesTold asked.entry.arguments.now.rules told.new.items) }
 {
     if !asked.asks() {
         return Ok(());
@@ -185,8 +185,8 @@ fn tell_rest(
     sources: &Sources<'_>,
     file: &UnreadFile,
 ) -> Result<(), AllocError>
-    ensures { AreTextRulesTold asked.arguments.now.rules told.old.items
-        → OnOk result (AreTextRulesTold asked.arguments.now.rules told.new.items) }
+    ensures { AreTextRulesTold asked.entry.arguments.now.rules told.old.items
+        → OnOk result (AreTextRulesTold asked.entry.arguments.now.rules told.new.items) }
 {
     if !asked.asks() {
         return Ok(());
