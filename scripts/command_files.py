@@ -41,7 +41,7 @@ LISTING = (
 WARNED = b'import "item.proto";\n'
 WARNING = b"warned.proto:1:1: warning: the import is unused: `item.proto` [C48]\n"
 FAULTY = b"message Item {\n"
-FAULT = b"faulty.proto:2:1: error: unexpected end of file [S8]\n"
+FAULT = b"faulty.proto:2:1: error: unexpected end of file, expected a statement or `}` [S8]\n"
 OLD = b"what was there before\n"
 LONG = b"what was there before, and is longer than the set that is written over it\n" * 4
 NOBODY = {"user": 65534, "group": 65534, "extra_groups": []}
@@ -76,9 +76,10 @@ class Folder:
         os.chmod(path, mode)
 
     def run(self, *words, **how):
+        """Runs the command. That texts have no `syntax` statement is not what the tries are about."""
         how.setdefault("stdin", subprocess.DEVNULL)
         how.setdefault("timeout", 600)
-        return subprocess.run([self.program, *words], **how)
+        return subprocess.run([self.program, "--rules=T19=off", *words], **how)
 
     def expect(self, *words, status=0, out=b"", err=b"", **how):
         """Runs the command, and compares all that it says."""
@@ -387,6 +388,14 @@ def open_files_are_written_to(it):
 
 
 @a_try
+def a_set_goes_to_standard_output(it):
+    it.expect("-o", "-", "item.proto", out=SET)
+    it.has()
+    it.put("faulty.proto", FAULTY)
+    it.expect("-o", "-", "faulty.proto", status=1, err=FAULT)
+
+
+@a_try
 def devices_and_pipes_are_written_to(it):
     it.expect("-o", "/dev/null", "item.proto")
     same(True, stat.S_ISCHR(os.stat("/dev/null").st_mode), "/dev/null")
@@ -537,10 +546,45 @@ def pipes_are_inputs(it):
 
 
 @a_try
+def standard_input_has_a_path(it):
+    named = LISTING.replace(b"item.proto", b"shop/new.proto")
+    with pipe_with(TEXT) as pipe:
+        it.expect("--stdin_path=shop/new.proto", "--list", "-", stdin=pipe, out=named)
+    told = b"shop/new.proto:2:1: error: unexpected end of file, expected a statement or `}` [S8]\n"
+    with pipe_with(FAULTY) as pipe:
+        it.expect("--stdin_path", "shop/new.proto", "-", stdin=pipe, status=1, err=told)
+    # What imports it finds the same text, and not the file that lies there.
+    it.put("shop/new.proto", FAULTY)
+    it.put("user.proto", b"import 'shop/new.proto'; message User { optional shop.Item i = 1; }")
+    includes = ["-I", "shop", "-I", "."]
+    for words in (["-", "user.proto"], ["user.proto", "-"], [*includes, "user.proto", "-"]):
+        with pipe_with(TEXT) as pipe:
+            it.expect("--stdin_path=shop/new.proto", *words, stdin=pipe)
+
+
+@a_try
+def sets_are_read(it):
+    it.put("set.pb", SET)
+    os.remove("item.proto")
+    it.expect("--descriptor_set_in=set.pb", "--list", "item.proto", out=LISTING)
+    with pipe_with(SET) as pipe:
+        words = [f"--descriptor_set_in=/dev/fd/{pipe}", "--list", "item.proto"]
+        it.expect(*words, pass_fds=[pipe], out=LISTING)
+    # It is read before it is written.
+    it.expect("--descriptor_set_in=set.pb", "-o", "set.pb", "item.proto")
+    it.has(**{"set.pb": SET})
+    it.put("user.proto", b"import 'item.proto'; message User { optional shop.Item item = 1; }")
+    it.expect("-I.", "--descriptor_set_in=set.pb", "--rules=off", "user.proto")
+    it.put("set.pb", SET[:-1])
+    told = b"set.pb: error: this is no descriptor set: byte 2: the bytes end inside a record [L14]\n"
+    it.expect("--descriptor_set_in=set.pb", "item.proto", status=1, err=told)
+
+
+@a_try
 def pipes_are_read_once(it):
     """A fault is told at its place, though more is looked at then than the run did."""
     for text, told in (
-        (FAULTY, ":2:1: error: unexpected end of file [S8]"),
+        (FAULTY, ":2:1: error: unexpected end of file, expected a statement or `}` [S8]"),
         (b"import 'no.proto';", ':1:1: error: the imported file "no.proto" is not found; '
          'it was looked for in ["/dev"] [L2]'),  # fmt: skip
         (b"message M { optional N n = 1; optional O o = 2; }", ""),
@@ -602,8 +646,22 @@ def an_include_without_the_file_is_passed(it):
         lost = f'error: the imported file "{path}" is not found; it was looked for in [".", "one"]'
         err = f"user.proto:1:1: {lost} [L2]\n".encode()
         it.expect("-I", ".", "-I", "one", "user.proto", status=1, err=err)
-    err = b"one/below/item.proto: error: the file could not be read: Is a directory (os error 21)"
-    it.expect("-I", "one", "one/below/item.proto", status=1, err=err + b" [L4]\n")
+    err = b"one/below/item.proto: error: no `.proto` file lies below the folder [L16]\n"
+    it.expect("-I", "one", "one/below/item.proto", status=1, err=err)
+
+
+@a_try
+def a_folder_is_its_files(it):
+    for name in ("b/y.proto", "b/a/x.proto", "c.proto", "b/note.txt", "proto", ".proto/z.proto"):
+        it.put(f"top/{name}", b"import 'z.proto';")
+    os.symlink("..", "top/b/up")
+    os.symlink("../c.proto", "top/b/linked.proto")
+    names = [".proto/z.proto", "b/a/x.proto", "b/linked.proto", "b/y.proto", "c.proto"]
+    for top in ("top", "top/"):
+        out = "".join(f"top/{name}: z.proto\n" for name in names).encode()
+        it.expect("--imports", "-I", "top", top, out=out)
+    it.expect("--imports", "top/b/a", "top/c.proto",
+              out=b"top/b/a/x.proto: z.proto\ntop/c.proto: z.proto\n")  # fmt: skip
 
 
 @a_try

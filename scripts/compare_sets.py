@@ -1,15 +1,17 @@
 #!/usr/bin/env python3
 """Compares descriptor sets with those of protoc, and has others read them: docs/protoc.md.
 
-    scripts/compare_sets.py [--program PROGRAM] FOLDER [INCLUDE..]
+    scripts/compare_sets.py [--program PROGRAM] [--source_info] FOLDER [INCLUDE..]
 
 Of each .proto file below FOLDER that protoc accepts, with FOLDER and the others as includes, it
 takes the set with all imports as protoc writes it, and as PROGRAM does, which is the command. It
 tells whether the bytes are the same; whether Python's package for Protocol Buffers reads ours,
 writes the same bytes again and makes descriptors of them; and whether protoc takes ours to make
 code in Python and in C++. A rule of this library is told apart: see by_our_rules. What protoc and
-the command bring of Google's files need not be among the includes. It wants protoc and that
-package. Its status is 1 where ours are not read by all."""
+the command bring of Google's files need not be among the includes. With --source_info both write
+places and comments too, of which those of the files that the command brings are not compared, since
+their texts are its own. It wants protoc and that package. Its status is 1 where ours are not read
+by all."""
 
 import argparse
 import collections
@@ -49,6 +51,15 @@ def content(path):
             return it.read()
     except FileNotFoundError:
         return None
+
+
+def without_google_places(data):
+    """A set in which Google's files have no source info."""
+    found = descriptor_pb2.FileDescriptorSet.FromString(data)
+    for file in found.file:
+        if file.name.startswith("google/protobuf/"):
+            file.ClearField("source_code_info")
+    return found.SerializeToString()
 
 
 def by_our_rules(data):
@@ -96,6 +107,7 @@ def told(at, path, room):
     if ours is None:
         return "refused by the program alone", []
     wrong = by_python(ours) + list(by_generators(path, of, own, room))
+    ours, theirs = without_google_places(ours), without_google_places(theirs)
     if ours == theirs:
         return "the same bytes", wrong
     is_rule = ours == by_our_rules(theirs)
@@ -106,18 +118,20 @@ def main():
     parser = argparse.ArgumentParser()
     built = f"{TOP}/crates/protobuf_parse_cli/out/protobuf_parse_cli"
     parser.add_argument("--program", default=built)
+    parser.add_argument("--source_info", action="store_true")
     parser.add_argument("folder")
     parser.add_argument("include", nargs="*")
     given = parser.parse_args()
     includes = [os.path.abspath(it) for it in [given.folder, *given.include]]
+    flags = ["--include_source_info"] if given.source_info else []
     program = os.path.abspath(given.program)
     counts = collections.Counter()
     with tempfile.TemporaryDirectory() as room:
         for at, path in enumerate(schemas(includes[0])):
-            if not written("protoc", includes, path, f"{room}/{at}.theirs"):
+            if not written("protoc", includes, path, f"{room}/{at}.theirs", *flags):
                 counts["refused by protoc"] += 1
                 continue
-            written(program, includes, path, f"{room}/{at}.ours", "--rules=off")
+            written(program, includes, path, f"{room}/{at}.ours", "--rules=off", *flags)
             result, wrong = told(at, path, room)
             counts[result] += 1
             counts["not read by all"] += bool(wrong)

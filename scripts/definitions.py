@@ -2,10 +2,11 @@
 """Which definitions the clauses of public functions rest on, and how many lines they have.
 
 Run it at the top of the repository: scripts/definitions.py prints each file of specs/ that has
-such a definition, with the lines of these definitions and of the whole file, and the sum. With
---unused it lists the definitions of specs/ that no public clause rests on. They stand in files of
-their own, which begin with the line MARK, each definition that a public clause rests on has a
-comment of its own, and docs/definitions.md says the sums; where that is not so the status is 1.
+such a definition, with the lines of these definitions and of the whole file and the first sentence
+of its comment, and the sums, by crates and of all. With --unused it lists the definitions of specs/ that no public clause rests on. They
+stand in files of their own, which begin with the line MARK, each definition that a public clause
+rests on has a comment of its own, and docs/definitions.md says the sum of all; where that is not so
+the status is 1.
 """
 
 import re
@@ -17,9 +18,10 @@ PAGE = Path("docs/definitions.md")
 MARK = "-- No public clause rests on this file.\n"
 CRATES = "base grammar lexer syntax recovery expected text_rules comments source_info records".split()
 CRATES += "model elaboration wire options".split()
-CRATES += "descriptor_set set_reader set_rules set_laws listing rules index name_rules".split()
+CRATES += "descriptor_set set_reader set_rules set_laws listing proto_text rules index option_paths locations name_rules".split()
+CRATES += ["location_laws"]
 CRATES += "google run load check".split() + [""]
-CRATES += "diagnostics files command".split()
+CRATES += "diagnostics files command c".split()
 # Parts of a run that the load and the check share with it: no caller has a use for them.
 SHARED = "elaborated loaded reach repeats tables LoadedFile compared content_of read_own".split()
 TOKEN = re.compile(r"[^\s(){};,λ\[\]`:!&]+")
@@ -127,7 +129,7 @@ def exported(crate):
     names = set()
     for found in re.finditer(r"pub use [\w:]+?(?:::\{([^}]*)\}|::(\w+));", text):
         names |= {n.strip() for n in (found.group(1) or found.group(2)).split(",") if n.strip()}
-    names |= set(re.findall(r"(?m)^pub fn (\w+)", text))
+    names |= set(re.findall(r"(?m)^pub (?:extern \"C\" )?fn (\w+)", text))
     modules = set(re.findall(r"pub mod (\w+)", text))
     if crate == "run":
         return names.difference(SHARED), modules.difference(SHARED)
@@ -168,7 +170,7 @@ def public_clauses(crate):
                 inherent = "trait " not in line and " for " not in line
             if line == "}":
                 inside = None
-            found = re.match(r"(\s*)(pub )?fn (\w+)", line)
+            found = re.match(r"(\s*)(pub )?(?:extern \"C\" )?fn (\w+)", line)
             if found:
                 name = inside if found.group(1) else found.group(3)
                 # a method of a trait is public without the word
@@ -215,14 +217,14 @@ def commented(path):
 
 def sentence(lines, comments):
     """What docs/definitions.md says of these lines of files, so many of them comments."""
-    parts = []
-    for crate in CRATES:
-        counts = [n for path, n in lines.items() if crate_folder(crate) in path.parents]
-        parts.append(f"`{crate_folder(crate).name}` {sum(counts)} in {len(counts)}")
-    return (
-        f"{sum(lines.values()):,} lines in {len(lines)} files, {comments:,} of them comments "
-        f"({'; '.join(parts)})"
-    )
+    return f"{sum(lines.values()):,} lines in {len(lines)} files, {comments:,} of them comments"
+
+
+def gist(path):
+    """The first sentence of a file's comment."""
+    comment = re.match(r"(?:-- .*\n)*", path.read_text().removeprefix(MARK))[0]
+    said = " ".join(line.removeprefix("-- ") for line in comment.splitlines())
+    return re.split(r"(?<=[.:]) (?=[A-Z])", said)[0]
 
 
 def main():
@@ -238,7 +240,10 @@ def main():
         lines[definition.path] += definition.lines
     wrong = [path for path in sizes if path.read_text().startswith(MARK) == (path in lines)]
     for path in sorted(lines):
-        print(f"{lines[path]:5} of {sizes[path]:4}  {path}")
+        print(f"{lines[path]:5} of {sizes[path]:4}  {path}: {gist(path)}")
+    for crate in CRATES:
+        counts = [n for path, n in lines.items() if crate_folder(crate) in path.parents]
+        print(f"{sum(counts):5} in {len(counts):3} files of {crate_folder(crate).name}")
     print(f"{sum(lines.values()):5} in {len(lines)} files")
     for path in wrong:
         print(f"its first line is wrong: {path}")
@@ -252,7 +257,7 @@ def main():
     for path, name in sorted(bare):
         print(f"public clauses rest on {name}, which has no comment: {path}")
     said = sentence(lines, sum(definition.comments for definition in needed))
-    is_told = said in PAGE.read_text()
+    is_told = said in " ".join(PAGE.read_text().split())
     if not is_told:
         print(f"{PAGE} doesn't say: {said}")
     return 1 if wrong or mixed or bare or not is_told else 0

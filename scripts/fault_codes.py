@@ -1,15 +1,14 @@
 #!/usr/bin/env python3
 """Whether docs/faults.md has each code of the code, and no other, once.
 
-Run it at the top of the repository. It prints the codes that one of them lacks, and each row whose
-input is a text that told.cases has no row for; the status is 1 if there are any.
+Run it at the top of the repository. It prints the codes that one of them lacks, each whose input is
+a text that told.cases doesn't have, and each rule for which docs/rules.md doesn't have once what
+`protoc` says; the status is 1 if there are any.
 """
 
 import re
 import sys
 from pathlib import Path
-
-CODE = re.compile(r"[SPELBCT][0-9]+")
 
 
 def codes_of_code():
@@ -22,20 +21,32 @@ def codes_of_code():
     return found
 
 
-def rows_of_page():
-    for line in Path("docs/faults.md").read_text().splitlines():
-        cells = [cell.strip() for cell in re.split(r"(?<!\\)\|", line)[1:-1]]
-        if cells and CODE.fullmatch(cells[0]):
-            yield cells[0], cells[2] if len(cells) > 2 else ""
+def items_of_page():
+    """The code of each item of a list, and what stands in the parentheses at its end, or nothing."""
+    page = Path("docs/faults.md").read_text().replace("\n  ", " ")
+    for code, said in re.findall(r"^- \*\*(\w+)\*\* (.*)$", page, re.M):
+        given = re.search(r" \((`.*)\)$", said)
+        yield code, given[1] if given else ""
+
+
+def rules_of_protoc():
+    """The codes in the list of what `protoc` says; a line may have several."""
+    table = Path("docs/rules.md").read_text().split("## What `protoc` says")[1].split("\n## ")[0]
+    for cell in re.findall(r"^    ([CT][0-9]+(?:, [CT][0-9]+)*) ", table, re.M):
+        yield from cell.split(", ")
 
 
 def main():
-    rows = list(rows_of_page())
+    rows = list(items_of_page())
     page, code = [row[0] for row in rows], codes_of_code()
     wrong = []
     for name in sorted(set(page) | set(code)):
         if page.count(name) != 1 or code.count(name) != 1:
             wrong.append(f"{name}: {page.count(name)} in docs/faults.md, {code.count(name)} in the code")
+    said = list(rules_of_protoc())
+    for name in sorted({name for name in page if name[0] in "CT"} | set(said)):
+        if page.count(name) != 1 or said.count(name) != 1:
+            wrong.append(f"{name}: {said.count(name)} in docs/rules.md, of what protoc says")
     cases = Path("crates/protobuf_parse_cases/data/told.cases").read_text()
     for name, given in rows:
         whole = re.fullmatch(r"`([^`]+)`", given)

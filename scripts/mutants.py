@@ -1,66 +1,76 @@
 #!/usr/bin/env python3
-"""Writes docs/MUTANTS.md from the edits under crates/*/must-fail/.
+"""The edits that the check must refuse: those under crates/*/must-fail/ and those under mutants/.
 
-Run it at the top of the repository. With --check it writes nothing, and its status is 1 if the page
-is not what it would write.
+Run it at the top of the repository: it prints each edit, with the texts that it puts in place of
+others. With --check it tells the edits that can't be made, since their file isn't there or hasn't
+the text just once; then the status is 1. With --try and names of crates (none: all) it tries the
+edits of mutants/ on a copy: `rt must-fail` must refuse each.
 """
 
+import shutil
+import subprocess
 import sys
+import tempfile
 from pathlib import Path
 
-PAGE = Path("docs/MUTANTS.md")
 
-HEAD = """# Wrong code that the check refuses
-
-Each row is a change of one or more lines by which the code says what its contract does not. The gate
-(`rt ci`) makes each of these edits on a copy and asks for the proof: it must be refused. The text of an
-edit is `must-fail/NAME.edit` of its crate; `rt must-fail` tries them alone. `scripts/mutants.py` writes
-this page.
-
-`rt plant CRATE` makes wrong bodies by itself and lists those that a crate's contracts let through. Let
-through on purpose are: another of the faults S8, S11, S12, S16 and S17 where several stand at one token;
-`short_number` of the lexer that finds none, by which numbers are cut more slowly; and a tokenizer that
-keeps nothing behind the last token of a text, where nobody reads on.
-
-| crate | what it would do | in place of | there would stand |
-|---|---|---|---|
-"""
+def edits():
+    return sorted([*Path("crates").glob("*/must-fail/*.edit"), *Path("mutants").glob("*/*.edit")])
 
 
-def code(text):
-    """The text as code in a cell of a table, cut where it is long."""
-    text = " ".join(text.split()).replace("|", "\\|")
-    return f"`{text if len(text) <= 120 else text[:117] + '...'}`"
-
-
-def edit_of(path):
-    """The file of an edit, and each text with what stands in its place."""
-    pairs, old = [], ""
+def changes(path):
+    """The changes of an edit, each as its file, the text there and that in its place."""
+    file = old = None
     for line in path.read_text().splitlines():
-        if line.startswith("old: "):
+        if line.startswith("file: "):
+            file = Path("crates", path.parts[1], line[6:].strip())
+        elif line.startswith("old: "):
             old = line[5:]
         elif line.startswith("new:"):
-            pairs.append((old, line[5:]))
-    return pairs
+            yield file, old, line[5:]
 
 
-def page():
-    rows = []
-    for path in sorted(Path("crates").glob("*/must-fail/*.edit")):
-        crate = path.parts[1].removeprefix("protobuf_parse_")
-        name = path.stem.replace("_", " ")
-        pairs = edit_of(path)
-        old = ", ".join(code(pair[0]) for pair in pairs)
-        new = ", ".join(code(pair[1]) for pair in pairs)
-        rows.append(f"| {crate} | {name} | {old} | {new} |\n")
-    return HEAD + "".join(rows)
+def wrong(path):
+    """Why an edit can't be made, in one line each."""
+    found = list(changes(path))
+    if not found:
+        yield f"{path}: changes nothing"
+    for file, old, _ in found:
+        times = file.read_text().count(old) if file and file.is_file() and old else 0
+        if times != 1:
+            yield f"{path}: {times} times in {file}: {old}"
+
+
+def try_edits(names):
+    """Whether each edit of mutants/ for these crates is refused, on a copy of the repository."""
+    crates = names or sorted(path.name for path in Path("mutants").iterdir())
+    files = subprocess.run(
+        ["git", "ls-files", "-co", "--exclude-standard"], capture_output=True, text=True, check=True
+    ).stdout.splitlines()
+    with tempfile.TemporaryDirectory() as room:
+        for file in filter(lambda file: Path(file).is_file(), files):
+            to = Path(room, file)
+            to.parent.mkdir(parents=True, exist_ok=True)
+            shutil.copy2(file, to)
+        for crate in crates:
+            to = Path(room, "crates", crate, "must-fail")
+            to.mkdir(exist_ok=True)
+            for edit in Path("mutants", crate).glob("*.edit"):
+                shutil.copy2(edit, to)
+        return subprocess.run(["rt", "must-fail", *crates], cwd=room).returncode == 0
 
 
 def main():
-    text = page()
+    if "--try" in sys.argv:
+        return 0 if try_edits(sys.argv[sys.argv.index("--try") + 1 :]) else 1
     if "--check" in sys.argv:
-        return 0 if PAGE.read_text() == text else 1
-    PAGE.write_text(text)
+        told = [line for path in edits() for line in wrong(path)]
+        print("\n".join(told) or f"{len(edits())} edits")
+        return 1 if told else 0
+    for path in edits():
+        print(f"{path}:")
+        for file, old, new in changes(path):
+            print(f"  {file}\n    - {old.strip()}\n    + {new.strip()}")
     return 0
 
 

@@ -5,11 +5,11 @@
 
 Run it at the top of the repository. Each link leads to a file, each path of the repository that a
 page names is there, and each definition, function and case of docs/HOUSE.md; no page is longer than
-it may be, the modules of docs/definitions.md are in the crates of their sections, and docs/MUTANTS.md
-is what the edits say. With --run the commands of README.md and docs/TUTORIAL.md are run, one after
-the other, in a copy of the repository with the files that the pages show: those that begin with `cd`,
-`rt try`, `out/`, `protoc`, `cat`, `echo` or `mkdir`. Programs in out/ are those that `rt run` has
-built. The status is 1 if anything is wrong.
+it may be, and the modules of docs/definitions.md are in the crates of their sections. With --run the
+commands of README.md and docs/TUTORIAL.md are run, one after the other, in a copy of the repository
+with the files that the pages show: those that begin with `cd`, `rt try`, `out/`, `protoc`, `cat`,
+`echo` or `mkdir`. Programs in out/ are those that `rt run` has built. The status is 1 if anything is
+wrong.
 """
 
 import re
@@ -136,8 +136,6 @@ def main():
         if most and words > most:
             wrong.append(f"{page}: {words} words, and {most} are enough")
     wrong += [*wrong_rooms(), *wrong_modules()]
-    if subprocess.run([sys.executable, "scripts/mutants.py", "--check"]).returncode != 0:
-        wrong.append("docs/MUTANTS.md: scripts/mutants.py writes another page")
     if "--run" in sys.argv:
         for page in (Path("README.md"), Path("docs/TUTORIAL.md")):
             wrong += run_commands(page)

@@ -1,13 +1,13 @@
 #!/usr/bin/env python3
 """Measures the built programs and prints the tables of docs/PERFORMANCE.md.
 
-    scripts/performance.py [--best N] [--no-instructions] [TABLE..]
+    scripts/performance.py [--best N] [--no-instructions] [--cli COMMAND] [TABLE..]
 
 Run it at the top of the repository, once `rt run` has built the programs in
 crates/protobuf_parse_program and crates/protobuf_parse_bench, with nothing else on the machine.
-TABLE is one of sizes, attacks, files, options, faults, checks, lexing, beside; without one all are
-measured; faults and checks need the command, which `rt run` builds in crates/protobuf_parse_cli. A
-time is user and system time together, the best of N runs; memory is the most that the process held,
+TABLE is one of sizes, attacks, files, options, faults, checks, lexing, beside, source_info, sets;
+without one all are measured; faults, checks, source_info and sets need the command, which `rt run`
+builds in crates/protobuf_parse_cli, and the last two protoc. A time is user and system time together, the best of N runs; memory is the most that the process held,
 in MB of 1,048,576 bytes; instructions are those that valgrind's callgrind counts.
 """
 
@@ -244,7 +244,67 @@ def beside(m):
             print(f"| {text.__name__} {n} | {name} | {time:.3f} s | {memory:.0f} MB | {count} |")
 
 
-TABLES = (sizes, attacks, files, options, faults, checks, lexing, beside)
+def commented(text):
+    """The text with a comment above each line, and one behind it."""
+    for piece in text:
+        for line in piece.splitlines():
+            yield f"// What the next line says.\n{line} // and why\n"
+
+
+def deep_messages(n):
+    """n messages, thirty inside one another."""
+    yield 'syntax = "proto3";\n'
+    for i in range(n // 30):
+        yield "".join(f"message M{i}_{level} {{\n" for level in range(30)) + "}" * 30 + "\n"
+
+
+def one_comment(n):
+    yield 'syntax = "proto3";\n/* ' + "x " * (n // 2) + "*/\nmessage M {}\n"
+
+
+def many_comments(n):
+    yield 'syntax = "proto3";\n' + "// x\n\n" * n + "message M {}\n"
+
+
+def beside_protoc(m, what, ours, theirs):
+    for name, args in (("this one", [CLI, "--rules=off", *ours]), ("`protoc`", ["protoc", *theirs])):
+        time, memory, _ = m.run(*args)
+        count = m.instructions(*args)
+        print(f"| {what} | {name} | {time:.3f} s | {memory:.0f} MB | {count} |")
+
+
+def source_info(m):
+    print("| file and set | program | time | memory | million instructions |\n|---|---|---|---|---|")
+    made = [("scalars 4000", scalars(4000)), ("of_all_kinds 3000", of_all_kinds(3000))]
+    made.append(("of_all_kinds 3000, with comments", commented(of_all_kinds(3000))))
+    for what, text in made:
+        m.write("f.proto", text)
+        words = ["-I.", "-o", "/dev/null", "f.proto"]
+        beside_protoc(m, what, words, words)
+        words.insert(0, "--include_source_info")
+        beside_protoc(m, f"{what}, source info", words, words)
+    print("\n| attack | half | whole | memory |\n|---|---|---|---|")
+    for text, n in ((many_comments, 1000000), (one_comment, 100000000), (deep_messages, 300000)):
+        runs = []
+        for size in (n // 2, n):
+            m.write("f.proto", text(size))
+            words = [CLI, "--rules=off", "--include_source_info", "-o", "/dev/null", "f.proto"]
+            runs.append(m.run(*words))
+        (half, _, _), (whole, memory, _) = runs
+        print(f"| `{text.__name__}` {n:,} | {half:.2f} s | {whole:.2f} s | {memory:.0f} MB |")
+
+
+def sets(m):
+    print("| set | program | time | memory | million instructions |\n|---|---|---|---|---|")
+    for text, n in ((scalars, 4000), (scalars, 17280), (of_all_kinds, 3000)):
+        m.write("f.proto", text(n))
+        subprocess.run(["protoc", "-I.", "-o", "f.pb", "f.proto"], cwd=m.folder, check=True)
+        size = (m.folder / "f.pb").stat().st_size / 1e6
+        words = ["--descriptor_set_in=f.pb", "-o", "/dev/null", "f.proto"]
+        beside_protoc(m, f"{text.__name__} {n}, {size:.1f} MB", words, words)
+
+
+TABLES = (sizes, attacks, files, options, faults, checks, lexing, beside, source_info, sets)
 TABLES = {table.__name__: table for table in TABLES}
 
 
@@ -253,7 +313,9 @@ def main():
     parser.add_argument("tables", nargs="*", choices=[*TABLES, []])
     parser.add_argument("--best", type=int, default=5)
     parser.add_argument("--no-instructions", action="store_true")
+    parser.add_argument("--cli", default=str(CLI))
     given = parser.parse_args()
+    globals()["CLI"] = Path(given.cli).resolve()
     resource.setrlimit(resource.RLIMIT_CORE, (0, 0))
     with tempfile.TemporaryDirectory() as folder:
         measure = Measure(folder, given.best, not given.no_instructions)

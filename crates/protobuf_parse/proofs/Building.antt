@@ -68,7 +68,7 @@ inputs_at-push (a ∷ ns) [] n i h = absurd (omega arith)
 inputs_at-push (a ∷ ns) (b ∷ is) n i h = let len : length ns ≡ length is = omega arith in
     ap (λ z. at a b ∷ z) (inputs_at-push ns is n i len)
 
-pub views-next : {X : Type 0} (v : X → Text) (xs : List X) (k : ℕ) (x : X) → k < length xs
+pub views-next : {X Y : Type 0} (v : X → Y) (xs : List X) (k : ℕ) (x : X) → k < length xs
     → x ≡ get_or xs k x → map v (take (k + 1) xs) ≡ map v (take k xs) ++ v x ∷ []
 views-next v xs k x lt is =
     ap (map v) (take_more xs k x lt)

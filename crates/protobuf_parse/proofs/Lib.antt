@@ -3,3 +3,4 @@ pub mod Including
 pub mod Building
 mod NumbersApart
 mod Checking
+pub mod Sourcing

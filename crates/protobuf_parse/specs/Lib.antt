@@ -7,3 +7,4 @@ pub mod ApartInRuns
 pub mod Checking
 pub mod Outcomes
 pub mod IncludeParts
+pub mod SourceInfo

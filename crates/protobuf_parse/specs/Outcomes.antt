@@ -10,6 +10,7 @@ use Rattle.protobuf_parse_run.specs.Run.{OrMemory}
 use Rattle.protobuf_parse_check.specs.declared.report.Check.{Check}
 use Rattle.protobuf_parse.specs.Checking.{ChecksOverFolders}
 use Rattle.protobuf_parse.specs.Parsers.{RunsOverFolders}
+use Rattle.protobuf_parse.specs.declared.parser.builder.LoggedRun.{LoggedRun}
 
 -- or memory ran out
 abbrev pub CheckedOverFolders : List (Text × Text) → List Text → List Text → List Text
@@ -25,3 +26,8 @@ RanOverFolders bundled includes inputs names (Ok files) =
     RunsOverFolders bundled includes inputs names (Ok files)
 RanOverFolders bundled includes inputs names (Err f) =
     OrMemory f (RunsOverFolders bundled includes inputs names (Err f))
+
+-- the descriptors of a run that is kept with its reads, or its fault
+abbrev pub files_of_run : Result LoggedRun RunFault → Result (Vec FileDescriptorProto) RunFault
+files_of_run (Ok run) = Ok run.files
+files_of_run (Err f) = Err f

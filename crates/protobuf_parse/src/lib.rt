@@ -10,6 +10,7 @@ pub use laws::numbers_are_apart_in_runs;
 pub use parser::FsReader;
 pub use parser::FsResolver;
 pub use parser::ParsedAndTypechecked;
+pub use parser::ParsedWithSourceInfo;
 pub use parser::Parser;
 pub use parser::files_of_inputs;
 pub use parser::fs_resolver;

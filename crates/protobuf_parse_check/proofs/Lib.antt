@@ -26,3 +26,4 @@ pub mod ReadAlike
 pub mod Answering
 pub mod Agreeing
 pub mod FirstTold
+pub mod PlaceNumbers

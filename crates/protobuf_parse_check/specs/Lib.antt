@@ -4,3 +4,4 @@ pub mod Reports
 pub mod Judging
 pub mod SoFar
 pub mod Laws
+pub mod Places

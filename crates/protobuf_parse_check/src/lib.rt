@@ -8,6 +8,7 @@ mod imports;
 mod judge;
 mod judged;
 mod laws;
+mod places;
 mod repeats;
 mod report;
 mod verdict;

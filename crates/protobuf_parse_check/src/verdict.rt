@@ -1,19 +1,21 @@
 //! What is told of a file, by what is wrong in it and what was told of others.
 
-ghost use Rattle.std.specs.Prelude.{◌≡◌, ◌&&◌, ◌||◌, not, filter, slice_get, map, IfOk};
+ghost use Rattle.std.specs.Prelude.{◌≡◌, ◌&&◌, ◌||◌, List, not, filter, slice_get, map, IfOk};
 ghost use Rattle.std.specs.List.{list_any};
 ghost use Rattle.protobuf_parse_model.specs.Faults as elaborating;
 ghost use Rattle.protobuf_parse_model.specs.Faults.{fault_view, found};
 ghost use Rattle.protobuf_parse_check.specs.Judging as judging;
 ghost use Rattle.protobuf_parse_check.specs.Reports as reports;
-ghost use Rattle.protobuf_parse_check.specs.Reports.{stands_at};
+ghost use Rattle.protobuf_parse_check.specs.Places.{HavePlaces};
 ghost use Rattle.protobuf_parse_check.specs.Judging.{any_with, has_fault, has_lost, has_trouble};
 ghost use Rattle.protobuf_parse_check.specs.Judging.{is_hidden_by};
 
+use crate::places::{has_place, places_of};
 use crate::report::FileState;
 use protobuf_parse_model::{ElabError, ElabErrorKind};
 use protobuf_parse_syntax::FileTree;
 use std::alloc::{AllocError, Global};
+use std::collections::BTreeSet;
 
 /// What is told of a file, and what those that import it need to know.
 #[derive(Drop)]
@@ -118,36 +120,26 @@ pub fn shown(
     if !misses && repeats.is_empty() {
         return Ok(faults);
     }
+    let told = places_of(alloc, repeats)?;
     let mut rest = Vec::new(alloc);
     for fault in faults {
-        if !is_hidden(&fault, misses, repeats) {
+        if !is_hidden(&fault, misses, &told) {
             rest.push(fault)?;
         }
     }
     Ok(rest)
 }
 
-/// Whether the fault is hidden.
-fn is_hidden(fault: &ElabError, misses: bool, repeats: &[ElabError]) -> bool
-    ensures { result ≡ is_hidden_by misses (map fault_view repeats.now) (fault_view fault.now) }
+/// Whether the fault is hidden, where these are the places of some faults that are told.
+fn is_hidden(fault: &ElabError, misses: bool, told: &BTreeSet<u64>) -> bool
+    ensures { (repeats : List elaborating.Fault) → HavePlaces repeats told.now
+        → result ≡ is_hidden_by misses repeats (fault_view fault.now) }
 {
     match fault.kind {
         ElabErrorKind::NotFoundByAbsPath | ElabErrorKind::NotFoundByRelPath => misses,
-        ElabErrorKind::DuplicateName => is_told_at(fault, repeats),
+        ElabErrorKind::DuplicateName => has_place(told, fault.place),
         _ => false,
     }
-}
-
-/// Whether one of the faults `repeats` stands at the place of this one.
-fn is_told_at(fault: &ElabError, repeats: &[ElabError]) -> bool
-    ensures { result ≡ stands_at (fault_view fault.now) (map fault_view repeats.now) }
-{
-    for repeat in repeats {
-        if fault.place.line == repeat.place.line && fault.place.col == repeat.place.col {
-            return true;
-        }
-    }
-    false
 }
 
 /// What became of a file of which something is told or not, and so of one below it.

@@ -1,2 +1,4 @@
+mod Found
+mod Keeping
 mod Sounding
 mod Texts

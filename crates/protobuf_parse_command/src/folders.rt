@@ -1,5 +1,6 @@
 //! Folders that aren't there.
 
+use crate::includes::disk_of;
 use protobuf_parse_diagnostics::{Diagnostic, Severity};
 use std::alloc::{AllocError, Global};
 use std::fs;
@@ -17,6 +18,7 @@ pub fn tell_missing_folders<R: Files>(
     told: &mut Vec<Diagnostic>,
 ) -> Result<(), AllocError> {
     for include in includes {
+        let include = disk_of(include);
         if !include.is_empty() && matches!(fs::exists(rt, include), Ok(false)) {
             told.push(folder_told(alloc, include)?)?;
         }

@@ -1,5 +1,8 @@
 //! Where the files of a command line lie, and their proto paths.
 
+use crate::arguments::{Arguments, STANDARD_INPUT};
+use crate::includes::{mapped_name, place_in};
+use crate::set_texts::SetTexts;
 use crate::shadow::{shadow_of, shadow_told};
 use protobuf_parse::{ProtoPath, ProtoPathBuf, RunFault, RunInput, proto_path_of};
 use protobuf_parse_diagnostics::{Diagnostic, Sources, fault_diagnostic};
@@ -7,8 +10,9 @@ use std::alloc::{AllocError, Global};
 use std::fs;
 use std::rt::Files;
 
-/// The input of a run for this file: at its own path where it lies below an include; else by its
-/// proto path where an include has that. Or what is told of a file that is none: L3 where no
+/// The input of a run for this file. `-` is standard input, with the proto path that the arguments
+/// give it. Another one is read at its own path where it lies below an include; else by its
+/// proto path where an include or a set has that. Or what is told of a file that is none: L3 where no
 /// include has it, L11 where what follows the include is no proto path, L6 where it is shadowed.
 /// No file is opened.
 ///
@@ -16,12 +20,17 @@ use std::rt::Files;
 pub fn input_of<R: Files>(
     rt: &R,
     alloc: Global,
-    includes: &[String],
+    arguments: &Arguments,
+    sets: &SetTexts<'_>,
     file: &str,
 ) -> Result<Result<RunInput, Diagnostic>, AllocError> {
+    let includes = &arguments.includes;
+    if let Some(input) = standard_input(alloc, arguments, file)? {
+        return Ok(Ok(input));
+    }
     let found = match fs::exists(rt, file) {
         Ok(false) => missing_input(alloc, includes, file),
-        Ok(true) | Err(_) => present_input(rt, alloc, includes, file),
+        Ok(true) | Err(_) => present_input(rt, alloc, includes, sets, file),
     };
     match found {
         Ok(RunInput::At { name, fs_path }) => {
@@ -32,6 +41,21 @@ pub fn input_of<R: Files>(
         }
         Ok(named) => Ok(Ok(named)),
         Err(fault) => Ok(Err(fault_of_input(alloc, &fault)?)),
+    }
+}
+
+/// Standard input, if that is the file.
+fn standard_input(
+    alloc: Global,
+    arguments: &Arguments,
+    file: &str,
+) -> Result<Option<RunInput>, AllocError> {
+    match &arguments.stdin_path {
+        Some(path) if file == STANDARD_INPUT => match ProtoPath::new(path) {
+            Ok(name) => Ok(Some(at(alloc, name.to_proto_path_buf(alloc)?, path)?)),
+            Err(_) => Ok(None),
+        },
+        _ => Ok(None),
     }
 }
 
@@ -46,12 +70,13 @@ fn present_input<R: Files>(
     rt: &R,
     alloc: Global,
     includes: &[String],
+    sets: &SetTexts<'_>,
     file: &str,
 ) -> Result<RunInput, RunFault> {
-    match proto_path_of(alloc, includes, file) {
+    match name_of(alloc, includes, file) {
         Ok(name) => Ok(at(alloc, name, file)?),
         Err(RunFault::FileMustResideInImportPath(input, listed)) => {
-            match named(rt, alloc, includes, file)? {
+            match named(rt, alloc, includes, sets, file)? {
                 Some(name) => Ok(RunInput::Named(name)),
                 None => Err(RunFault::FileMustResideInImportPath(input, listed)),
             }
@@ -70,8 +95,18 @@ fn missing_input(alloc: Global, includes: &[String], file: &str) -> Result<RunIn
             Err(_) => Err(RunFault::Memory),
         };
     }
-    let name = proto_path_of(alloc, includes, file)?;
+    let name = name_of(alloc, includes, file)?;
     Ok(at(alloc, name, file)?)
+}
+
+/// The proto path of a file that lies below an include, or where one maps a proto path.
+fn name_of(alloc: Global, includes: &[String], file: &str) -> Result<ProtoPathBuf, RunFault> {
+    for include in includes {
+        if let Some(name) = mapped_name(alloc, include, file)? {
+            return Ok(name);
+        }
+    }
+    proto_path_of(alloc, includes, file)
 }
 
 fn at(alloc: Global, name: ProtoPathBuf, file: &str) -> Result<RunInput, AllocError> {
@@ -79,20 +114,25 @@ fn at(alloc: Global, name: ProtoPathBuf, file: &str) -> Result<RunInput, AllocEr
     Ok(RunInput::At { name, fs_path })
 }
 
-/// The proto path that the text is, if an include has a file of that path.
+/// The proto path that the text is, if an include or a set has a file of that path.
 fn named<R: Files>(
     rt: &R,
     alloc: Global,
     includes: &[String],
+    sets: &SetTexts<'_>,
     file: &str,
 ) -> Result<Option<ProtoPathBuf>, AllocError> {
     let Ok(path) = ProtoPath::new(file) else {
         return Ok(None);
     };
+    if sets.has(file) {
+        return Ok(Some(path.to_proto_path_buf(alloc)?));
+    }
     for include in includes {
-        let candidate = format!(in alloc; "{include}/{file}")?;
-        if !include.is_empty() && matches!(fs::exists(rt, &candidate), Ok(true)) {
-            return Ok(Some(path.to_proto_path_buf(alloc)?));
+        if let Some(place) = place_in(alloc, include, path)? {
+            if !include.is_empty() && matches!(fs::exists(rt, &place), Ok(true)) {
+                return Ok(Some(path.to_proto_path_buf(alloc)?));
+            }
         }
     }
     Ok(None)

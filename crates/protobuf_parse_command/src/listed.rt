@@ -4,6 +4,9 @@ use crate::arguments::Arguments;
 use crate::folders::tell_missing_folders;
 use crate::inputs::input_of;
 use crate::reading::Folders;
+use crate::set_texts::SetTexts;
+use crate::sets::{Sets, sets_of};
+use crate::walk::files_asked;
 use protobuf_parse::{ReadEntry, RunFault, RunInput, google_files};
 use protobuf_parse_diagnostics::{Diagnostic, Sources, add_reason, arrange, fault_diagnostic};
 use protobuf_parse_run::InputRead;
@@ -26,25 +29,40 @@ pub fn imports_of_files<R: Files + AllocGlobal>(
     alloc: Global,
     arguments: &Arguments,
 ) -> Result<Imports, AllocError> {
-    let folders = Folders::of(rt, alloc, &arguments.includes)?;
     let mut imports = Imports {
         told: Vec::new(alloc),
         text: String::new(alloc),
     };
-    tell_missing_folders(rt, alloc, &arguments.includes, &mut imports.told)?;
-    for file in &arguments.files {
-        match input_of(rt, alloc, &arguments.includes, file)? {
-            Ok(input) => add_input(alloc, &folders, file, &input, &mut imports)?,
-            Err(told) => imports.told.push(told)?,
-        }
+    let sets = sets_of(rt, alloc, &arguments.sets, &mut imports.told)?;
+    if imports.told.is_empty() {
+        tell_missing_folders(rt, alloc, &arguments.includes, &mut imports.told)?;
+        add_files(rt, alloc, arguments, &sets, &mut imports)?;
     }
     arrange(&mut imports.told)?;
     Ok(imports)
 }
 
+fn add_files<R: Files + AllocGlobal>(
+    rt: &R,
+    alloc: Global,
+    arguments: &Arguments,
+    sets: &Sets,
+    imports: &mut Imports,
+) -> Result<(), AllocError> {
+    let texts = SetTexts::of(alloc, sets)?;
+    let folders = Folders::of(rt, alloc, arguments, texts)?;
+    for file in &files_asked(rt, alloc, &arguments.files, &mut imports.told)? {
+        match input_of(rt, alloc, arguments, folders.sets(), file)? {
+            Ok(input) => add_input(alloc, &folders, file, &input, imports)?,
+            Err(told) => imports.told.push(told)?,
+        }
+    }
+    Ok(())
+}
+
 fn add_fault<R: Files + AllocGlobal>(
     alloc: Global,
-    folders: &Folders<'_, R>,
+    folders: &Folders<'_, '_, R>,
     reads: &[ReadEntry],
     fault: &RunFault,
     imports: &mut Imports,
@@ -58,7 +76,7 @@ fn add_fault<R: Files + AllocGlobal>(
 
 fn add_input<R: Files + AllocGlobal>(
     alloc: Global,
-    folders: &Folders<'_, R>,
+    folders: &Folders<'_, '_, R>,
     file: &str,
     input: &RunInput,
     imports: &mut Imports,

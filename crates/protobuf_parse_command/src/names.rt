@@ -33,12 +33,14 @@ pub fn told_names(
     let inputs = paths_of(alloc, held.inputs)?;
     for tree in held.trees {
         let asked = TextsAsked::of(arguments, &inputs, &tree.path);
-        let seen = seen_by(alloc, &paths, &tree.path)?;
-        let files = NameFiles {
-            index: &index,
-            seen: &seen,
-        };
-        tell_names(alloc, &mut told, asked, sources, &files, tree)?;
+        if asked.asks() {
+            let seen = seen_by(alloc, &paths, &tree.path)?;
+            let files = NameFiles {
+                index: &index,
+                seen: &seen,
+            };
+            tell_names(alloc, &mut told, asked, sources, &files, tree)?;
+        }
     }
     Ok(told)
 }
@@ -55,9 +57,6 @@ fn tell_names(
     ensures { AreTextRulesTold asked.entry.arguments.now.rules told.old.items
         → OnOk result (AreTextRulesTold asked.entry.arguments.now.rules told.new.items) }
 {
-    if !asked.asks() {
-        return Ok(());
-    }
     let Some(source) = sources.of_path(&tree.path) else {
         return Ok(());
     };

@@ -53,14 +53,14 @@ fn told_violations(
     let mut all = violations_in(alloc, held.files)?;
     let inputs = paths_of(alloc, held.inputs)?;
     all.retain(|violation| {
-        is_asked(violation.rule.code(), arguments)
+        is_rule_on(violation.rule.code(), arguments)
             && (is_told_of(violation, arguments) || inputs.contains(violation.file.as_str()))
     });
     Ok(all)
 }
 
 /// Whether violations of the rule of that code are told.
-pub fn is_asked(code: &str, arguments: &Arguments) -> bool {
+pub fn is_rule_on(code: &str, arguments: &Arguments) -> bool {
     !arguments.rules_off.contains(code)
 }
 
@@ -148,7 +148,7 @@ impl<'a> TextsAsked<'a> {
     /// Whether the rule is told of it: that a file has no `syntax` statement is for who works on it.
     pub fn has(&self, rule: TextRule) -> bool {
         let is_meant = self.is_input || !matches!(rule, TextRule::SyntaxMissing);
-        self.asks() && is_meant && is_asked(rule.code(), self.arguments)
+        self.asks() && is_meant && is_rule_on(rule.code(), self.arguments)
     }
 }
 

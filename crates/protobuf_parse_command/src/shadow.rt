@@ -1,6 +1,6 @@
 //! Files that lie below an include, and in whose place an include before it has another.
 
-use protobuf_parse::search::join_include;
+use crate::includes::{mapped_name, place_in};
 use protobuf_parse::{ProtoPath, RunFault, proto_path_of};
 use protobuf_parse_diagnostics::{Diagnostic, Severity};
 use std::alloc::{AllocError, Global};
@@ -20,16 +20,20 @@ pub fn shadow_of<R: Files>(
         if lies_below(alloc, include, file)? {
             return Ok(None);
         }
-        let other = join_include(alloc, include, name)?;
-        if matches!(fs::exists(rt, &other), Ok(true)) {
-            return Ok(Some(other));
+        if let Some(other) = place_in(alloc, include, name)? {
+            if matches!(fs::exists(rt, &other), Ok(true)) {
+                return Ok(Some(other));
+            }
         }
     }
     Ok(None)
 }
 
-/// Whether the include is a front of the file's path.
+/// Whether the include is a front of the file's path, or maps a proto path there.
 fn lies_below(alloc: Global, include: &String, file: &str) -> Result<bool, AllocError> {
+    if mapped_name(alloc, include, file)?.is_some() {
+        return Ok(true);
+    }
     match proto_path_of(alloc, slice::from_ref(include), file) {
         Err(RunFault::Memory) => Err(AllocError),
         Err(RunFault::FileMustResideInImportPath(_, _)) => Ok(false),

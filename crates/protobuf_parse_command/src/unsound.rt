@@ -4,7 +4,7 @@ ghost use Rattle.std.specs.Prelude.{IfOk};
 ghost use Rattle.protobuf_parse_command.specs.Checked.{AreRulesTold};
 
 use crate::arguments::Arguments;
-use crate::rules::{is_asked as is_rule_asked, paths_of, violations_in};
+use crate::rules::{is_rule_on, paths_of, violations_in};
 use crate::sound::is_sound;
 use protobuf_parse::{Check, FileReport, LoadStep, ProtoPathBuf, Rule, Violation};
 use protobuf_parse_diagnostics::{
@@ -102,7 +102,7 @@ fn violations_of(
     }
     let mut found = violations_in(alloc, &files)?;
     found.retain(|violation| {
-        is_rule_asked(violation.rule.code(), arguments) && meant.has(violation)
+        is_rule_on(violation.rule.code(), arguments) && meant.has(violation)
     });
     Ok(found)
 }

@@ -10,6 +10,3 @@ mod place;
 pub use divide::Comments;
 pub use gap::{Gap, comments};
 pub use place::{BytePlace, place_after};
-
-#[cfg(test)]
-mod tests;

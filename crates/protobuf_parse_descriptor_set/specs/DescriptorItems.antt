@@ -12,7 +12,7 @@ use Rattle.protobuf_parse_model.specs.Descriptors.{FileDescriptor}
 use Rattle.protobuf_parse_wire.specs.Trees.{Entries}
 use Rattle.protobuf_parse_wire.specs.Views.{entries_of_list}
 use Rattle.protobuf_parse_descriptor_set.specs.Items.{Items, bytes_of, text, int, choice, part}
-use Rattle.protobuf_parse_descriptor_set.specs.Items.{options, some, flag_if}
+use Rattle.protobuf_parse_descriptor_set.specs.Items.{options, some, flag_if, whole}
 use Rattle.protobuf_parse_descriptor_set.specs.Numbers.{label_number, type_number}
 use Rattle.protobuf_parse_descriptor_set.specs.OneofOrder.{fields_in_set, oneofs_in_set}
 use Rattle.protobuf_parse_descriptor_set.specs.RangeEnds.{ranges_in_set}
@@ -108,9 +108,9 @@ abbrev pub syntax_items : Option Text → Items
 syntax_items None = []
 syntax_items (Some s) = if bytes_eq s (codes "proto3") then text 12 s else []
 
--- FileDescriptorProto
-unfoldable pub file_items : FileDescriptor → Items
-file_items f =
+-- FileDescriptorProto, with the bytes of its SourceCodeInfo, if it is to have one
+unfoldable pub file_with : Option Text → FileDescriptor → Items
+file_with info f =
     some (text 1) f.name
     ++ some (text 2) f.«package»
     ++ flat_map (text 3) f.dependency
@@ -119,9 +119,14 @@ file_items f =
     ++ flat_map (λ s. part 6 (service_items s)) f.service
     ++ flat_map (λ e. part 7 (field_items e)) f.extension
     ++ some (λ o. options 8 (file_option_bytes o)) f.options
+    ++ some (whole 9) info
     ++ flat_map (int 10) f.public_dependency
     ++ flat_map (int 11) f.weak_dependency
     ++ syntax_items f.syntax
+
+-- the same without one
+unfoldable pub file_items : FileDescriptor → Items
+file_items f = file_with None f
 
 -- a FileDescriptorSet
 abbrev pub set_items : List FileDescriptor → Items
@@ -134,3 +139,26 @@ set_entries files = entries_of_list (set_items files)
 -- the bytes of a set
 abbrev pub set_bytes : List FileDescriptor → List ℕ
 set_bytes files = bytes_of (set_items files)
+
+-- ---- the same with source info
+
+-- a file, and the bytes of its SourceCodeInfo, if it is to have one
+pub record FileAndInfo : Type 0 where
+  pub file : FileDescriptor
+  pub source_code_info : Option Text
+
+-- FileDescriptorProto
+abbrev pub file_and_info_items : FileAndInfo → Items
+file_and_info_items f = file_with f.source_code_info f.file
+
+-- a FileDescriptorSet
+abbrev pub set_items_with_info : List FileAndInfo → Items
+set_items_with_info files = flat_map (λ f. part 1 (file_and_info_items f)) files
+
+-- as a tree of entries
+abbrev pub set_entries_with_info : List FileAndInfo → Entries
+set_entries_with_info files = entries_of_list (set_items_with_info files)
+
+-- its bytes
+abbrev pub set_bytes_with_info : List FileAndInfo → List ℕ
+set_bytes_with_info files = bytes_of (set_items_with_info files)

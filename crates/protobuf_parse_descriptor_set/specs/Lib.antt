@@ -5,5 +5,6 @@ pub mod OptionItems
 pub mod OneofOrder
 pub mod RangeEnds
 pub mod DescriptorItems
+pub mod SourceInfo
 pub mod Laws
 pub mod Told

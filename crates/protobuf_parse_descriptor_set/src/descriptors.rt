@@ -7,7 +7,9 @@ ghost use Rattle.protobuf_parse_descriptor_set.specs.DescriptorItems as spec;
 
 use crate::messages::put_messages;
 use crate::parts::{Described, put_options, put_parts};
-use crate::records::{put_flag_if, put_int, put_ints, put_text, put_text_if_some, put_texts};
+use crate::records::{
+    put_flag_if, put_int, put_ints, put_text, put_text_if_some, put_texts, put_whole_if_some,
+};
 use protobuf_parse_model::{
     EnumDescriptorProto, EnumReservedRange, EnumValueDescriptorProto, FileDescriptorProto,
     MethodDescriptorProto, ServiceDescriptorProto,
@@ -23,18 +25,34 @@ impl Described for FileDescriptorProto {
 
     #[tactic(auto, unfolding(crate::specs::DescriptorItems::file_items))]
     fn put(&self, alloc: Global, out: &mut Vec<u8>) -> Result<(), AllocError> {
-        put_text_if_some(out, 1, &self.name)?;
-        put_text_if_some(out, 2, &self.package)?;
-        put_texts(out, 3, &self.dependency)?;
-        put_messages(alloc, out, 4, &self.message_type)?;
-        put_parts(alloc, out, 5, &self.enum_type)?;
-        put_parts(alloc, out, 6, &self.service)?;
-        put_parts(alloc, out, 7, &self.extension)?;
-        put_options(out, 8, &self.options)?;
-        put_ints(out, 10, &self.public_dependency)?;
-        put_ints(out, 11, &self.weak_dependency)?;
-        put_syntax(out, &self.syntax)
+        put_file(alloc, out, self, None)
     }
+}
+
+/// Writes a file with the bytes of its source info, if it is to have one.
+#[tactic(auto, unfolding(crate::specs::DescriptorItems::file_with))]
+pub fn put_file(
+    alloc: Global,
+    out: &mut Vec<u8>,
+    file: &FileDescriptorProto,
+    info: Option<&[u8]>,
+) -> Result<(), AllocError>
+    ensures { OnOk result
+        (Writes (spec.file_with (option_map (λ b. b.now) info.entry) (model.file_view file.now))
+        out.old.items out.new.items) }
+{
+    put_text_if_some(out, 1, &file.name)?;
+    put_text_if_some(out, 2, &file.package)?;
+    put_texts(out, 3, &file.dependency)?;
+    put_messages(alloc, out, 4, &file.message_type)?;
+    put_parts(alloc, out, 5, &file.enum_type)?;
+    put_parts(alloc, out, 6, &file.service)?;
+    put_parts(alloc, out, 7, &file.extension)?;
+    put_options(out, 8, &file.options)?;
+    put_whole_if_some(out, 9, info)?;
+    put_ints(out, 10, &file.public_dependency)?;
+    put_ints(out, 11, &file.weak_dependency)?;
+    put_syntax(out, &file.syntax)
 }
 
 /// Writes the syntax where it is proto3.

@@ -11,6 +11,7 @@ mod options;
 mod parts;
 mod ranges;
 mod records;
+mod source_info;
 
 ghost use Rattle.std.specs.Prelude.{◌≡◌, [], IfOk, map};
 ghost use Rattle.protobuf_parse_model.specs.Descriptors.{file_view};
@@ -20,6 +21,7 @@ ghost use Rattle.protobuf_parse_wire.specs.Wire.{Spells};
 pub use laws::{custom_options_are_fields, oneofs_are_moved};
 use parts::put_parts;
 use protobuf_parse_model::FileDescriptorProto;
+pub use source_info::{FileWithInfo, descriptor_set_with_info};
 use std::alloc::{AllocError, Global};
 
 /// The number of the files in a `FileDescriptorSet`.
@@ -58,11 +60,18 @@ pub fn descriptor_set(alloc: Global, files: &[FileDescriptorProto]) -> Result<Ve
 
 /// Room for the fields, as long as most are, so that a large set is not copied while it grows.
 fn room_for(files: &[FileDescriptorProto]) -> usize {
-    let mut fields: usize = 0;
+    let mut room: usize = 0;
     for file in files {
-        for message in &file.message_type {
-            fields = fields.saturating_add(message.field.len());
-        }
+        room = room.saturating_add(room_of(file));
+    }
+    room
+}
+
+/// Room for the fields of a file.
+fn room_of(file: &FileDescriptorProto) -> usize {
+    let mut fields: usize = 0;
+    for message in &file.message_type {
+        fields = fields.saturating_add(message.field.len());
     }
     fields.saturating_mul(FIELD_LEN)
 }

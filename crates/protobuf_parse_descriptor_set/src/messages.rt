@@ -2,6 +2,7 @@
 
 ghost use Rattle.std.specs.Prelude.{◌≡◌, ◌++◌, OnOk, flat_map, length, map};
 ghost use Rattle.protobuf_parse_model.specs.Descriptors as model;
+ghost use Rattle.protobuf_parse_model.specs.MessageParts.{message_parts};
 ghost use Rattle.protobuf_parse_descriptor_set.specs.Items.{choice, part};
 ghost use Rattle.protobuf_parse_descriptor_set.specs.Writing.{Writes};
 ghost use Rattle.protobuf_parse_descriptor_set.specs.Numbers as numbers;
@@ -60,9 +61,9 @@ fn put_message_front(
     message: &DescriptorProto,
     synthetic: &[bool],
 ) -> Result<(), AllocError>
-    requires { synthetic.now ≡ order.synthetic (model.message_parts message.now) }
+    requires { synthetic.now ≡ order.synthetic (message_parts message.now) }
     ensures { OnOk result
-        (Writes (spec.message_front (model.message_parts message.now))
+        (Writes (spec.message_front (message_parts message.now))
         out.old.items out.new.items) }
 {
     put_text(out, 1, message.name.as_str())?;
@@ -111,9 +112,9 @@ fn put_message_back(
     message: &DescriptorProto,
     synthetic: &[bool],
 ) -> Result<(), AllocError>
-    requires { synthetic.now ≡ order.synthetic (model.message_parts message.now) }
+    requires { synthetic.now ≡ order.synthetic (message_parts message.now) }
     ensures { OnOk result
-        (Writes (spec.message_back (model.message_parts message.now))
+        (Writes (spec.message_back (message_parts message.now))
         out.old.items out.new.items) }
 {
     let message_set = is_message_set(message);

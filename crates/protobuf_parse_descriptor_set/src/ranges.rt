@@ -2,6 +2,7 @@
 
 ghost use Rattle.std.specs.Prelude.{◌≡◌, OnOk, flat_map, map};
 ghost use Rattle.protobuf_parse_model.specs.Descriptors as model;
+ghost use Rattle.protobuf_parse_model.specs.MessageParts.{message_parts};
 ghost use Rattle.protobuf_parse_descriptor_set.specs.Items.{part};
 ghost use Rattle.protobuf_parse_descriptor_set.specs.Writing.{Writes};
 ghost use Rattle.protobuf_parse_descriptor_set.specs.RangeEnds as spec;
@@ -52,7 +53,7 @@ impl NumberRange for ReservedRange {
 
 /// Whether the message has the wire format of message sets.
 pub fn is_message_set(message: &DescriptorProto) -> bool
-    ensures { result ≡ spec.is_message_set (model.message_parts message.now) }
+    ensures { result ≡ spec.is_message_set (message_parts message.now) }
 {
     match &message.options {
         Some(options) => options.message_set_wire_format.unwrap_or(false),

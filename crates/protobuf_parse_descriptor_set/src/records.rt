@@ -69,6 +69,23 @@ pub fn put_text_if_some(
     }
 }
 
+/// Adds a field with a message whose bytes are given, if there is one.
+#[tactic(auto, using(crate::proofs::Joining::none_yet, crate::proofs::Joining::writes_whole))]
+pub fn put_whole_if_some(
+    out: &mut Vec<u8>,
+    number: u32,
+    message: Option<&[u8]>,
+) -> Result<(), AllocError>
+    ensures { OnOk result
+        (Writes (spec.some (spec.whole number) (option_map (λ b. b.now) message.entry))
+        out.old.items out.new.items) }
+{
+    match message {
+        None => Ok(()),
+        Some(message) => put_bytes(out, number, message),
+    }
+}
+
 /// Adds a field with each of the texts.
 pub fn put_texts(out: &mut Vec<u8>, number: u32, texts: &[String]) -> Result<(), AllocError>
     ensures { OnOk result

@@ -16,6 +16,7 @@ mod later;
 mod loading;
 mod meaning;
 mod outline;
+mod parts;
 mod paths;
 mod ranges;
 mod reasons;

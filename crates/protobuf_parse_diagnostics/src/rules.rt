@@ -7,6 +7,7 @@ ghost use Rattle.protobuf_parse_diagnostics.specs.Broken.{is_told_at, severity_o
 use crate::declared::DeclarationPlaces;
 use crate::diagnostic::{Diagnostic, Severity};
 use crate::outline::{DeclaredKind, Outline};
+use crate::parts::{Part, StatementParts};
 use crate::ranges::RangePlaces;
 use crate::reserved::ReservedPlaces;
 use crate::sources::{NamedTree, Sources, tree_of};
@@ -86,7 +87,7 @@ fn tell_violations(
 ) -> Result<Vec<Diagnostic>, AllocError>
     ensures { IfOk result (λ told. AreViolationsTold level violations.now told.items) }
 {
-    let files = broken_files(alloc, trees, violations)?;
+    let files = broken_files(alloc, sources, trees, violations)?;
     let places = PlacesByFile::of(alloc, &files)?;
     let mut told = Vec::with_capacity(alloc, violations.len())?;
     let mut met = NamesMet::new(alloc);
@@ -127,18 +128,20 @@ fn paths_of(alloc: Global, violations: &[Violation]) -> Result<BTreeSet<&str>, A
 
 /// A file that has violations, and what its tree declares.
 #[derive(Drop)]
-struct BrokenFile<'t> {
+struct BrokenFile<'t, 's> {
     path: &'t str,
     tree: &'t FileTree,
     outline: Outline<'t>,
+    statements: StatementParts<'s>,
 }
 
 /// Those of the files that have violations.
-fn broken_files<'t>(
+fn broken_files<'t, 's>(
     alloc: Global,
+    sources: &Sources<'s>,
     trees: &'t [NamedTree],
     violations: &[Violation],
-) -> Result<Vec<BrokenFile<'t>>, AllocError> {
+) -> Result<Vec<BrokenFile<'t, 's>>, AllocError> {
     let paths = paths_of(alloc, violations)?;
     let mut files = Vec::new(alloc);
     for each in trees {
@@ -147,6 +150,7 @@ fn broken_files<'t>(
                 path: &each.path,
                 tree: &each.tree,
                 outline: Outline::of(alloc, &each.tree)?,
+                statements: StatementParts::of(alloc, sources.text_of(&each.path).unwrap_or(""))?,
             })?;
         }
     }
@@ -155,12 +159,12 @@ fn broken_files<'t>(
 
 /// What is declared in files, by their paths.
 #[derive(Drop)]
-struct PlacesByFile<'o> {
-    files: BTreeMap<&'o str, Places<'o>>,
+struct PlacesByFile<'o, 's> {
+    files: BTreeMap<&'o str, Places<'o, 's>>,
 }
 
-impl<'o> PlacesByFile<'o> {
-    fn of(alloc: Global, files: &'o [BrokenFile<'_>]) -> Result<Self, AllocError> {
+impl<'o, 's> PlacesByFile<'o, 's> {
+    fn of(alloc: Global, files: &'o [BrokenFile<'_, 's>]) -> Result<Self, AllocError> {
         let mut places = BTreeMap::new(alloc);
         for file in files {
             places.insert(file.path, Places::of(alloc, file)?)?;
@@ -213,37 +217,52 @@ impl<'v> NamesMet<'v> {
 
 /// What stands in a file, by the full names of what it declares and by the paths that it imports.
 #[derive(Drop)]
-struct Places<'o> {
-    statements: StatementPlaces<'o>,
+struct Places<'o, 's> {
+    others: StatementPlaces<'o>,
     declared: DeclarationPlaces,
     ranges: RangePlaces<'o>,
     reserved: ReservedPlaces<'o>,
     first_values: BTreeMap<&'o str, Place>,
     extends: &'o [Place],
+    statements: &'o StatementParts<'s>,
 }
 
-impl<'o> Places<'o> {
-    fn of(alloc: Global, file: &'o BrokenFile<'_>) -> Result<Self, AllocError> {
+impl<'o, 's> Places<'o, 's> {
+    fn of(alloc: Global, file: &'o BrokenFile<'_, 's>) -> Result<Self, AllocError> {
         Ok(Places {
-            statements: StatementPlaces::of(alloc, file.tree)?,
+            others: StatementPlaces::of(alloc, file.tree)?,
             declared: DeclarationPlaces::of_outline(alloc, &file.outline)?,
             ranges: RangePlaces::of(alloc, &file.outline)?,
             reserved: ReservedPlaces::of(alloc, &file.outline)?,
             first_values: first_values(alloc, &file.outline)?,
             extends: &file.outline.extends,
+            statements: &file.statements,
         })
+    }
+
+    /// The place of what breaks the rule in the statement that does.
+    fn of_violation(&self, violation: &Violation, before: usize) -> Option<Place> {
+        let statement = self.of_breach(violation, before)?;
+        let name = violation.name.as_deref().unwrap_or("");
+        Some(
+            self.statements
+                .place(statement, part_of(violation.rule), name),
+        )
     }
 
     /// The place of the statement that breaks the rule: of a range its own, and else the one that
     /// declares what breaks it, behind so many of the same name and kind.
-    fn of_violation(&self, violation: &Violation, before: usize) -> Option<Place> {
+    fn of_breach(&self, violation: &Violation, before: usize) -> Option<Place> {
         let own = self.of_statement(violation);
         if own.is_some() {
             return own;
         }
         for kind in kinds_of(violation.rule) {
             let place = self.declared.nth_place(*kind, &violation.construct, before);
-            if let (Some(place), Rule::ExtendeeNotMessage) = (place, violation.rule) {
+            if let (Some(place), Rule::ExtendeeNotMessage | Rule::ExtensionInProto3) = (
+                place,
+                violation.rule,
+            ) {
                 return Some(self.extend_around(place));
             }
             if place.is_some() {
@@ -267,13 +286,13 @@ impl<'o> Places<'o> {
         let construct = violation.construct.as_str();
         match violation.rule {
             Rule::LiteImport | Rule::ImportUnused => {
-                self.statements.import(violation.name.as_ref()?)
+                self.others.import(violation.name.as_ref()?)
             }
-            Rule::ImportedTwice => self.statements.repeated_import(violation.name.as_ref()?),
+            Rule::ImportedTwice => self.others.repeated_import(violation.name.as_ref()?),
             Rule::NameInUse {
                 kind: NamedKind::Package,
                 ..
-            } => self.statements.package,
+            } => self.others.package,
             Rule::RangeNotPositive { start } => self.ranges.starting(construct, start),
             Rule::RangesOverlap { start } => self.ranges.starting(construct, start),
             Rule::RangeEmpty { start } => self.ranges.empty(construct, start),
@@ -342,6 +361,53 @@ fn kinds_of(rule: Rule) -> &'static [DeclaredKind] {
             &[DeclaredKind::Field, DeclaredKind::EnumValue]
         }
         _ => &[DeclaredKind::Field, DeclaredKind::Extension],
+    }
+}
+
+/// What of the statement a rule speaks of.
+fn part_of(rule: Rule) -> Part {
+    match rule {
+        Rule::NumberInUse { .. }
+        | Rule::NumberInUseElsewhere { .. }
+        | Rule::NumberNotPositive { .. }
+        | Rule::NumberTooLarge { .. }
+        | Rule::NumberOfImplementation { .. }
+        | Rule::ValueInUse { .. }
+        | Rule::FirstValueNotZero { .. }
+        | Rule::NumberReserved { .. }
+        | Rule::NumberKeptForExtensions { .. }
+        | Rule::NumberNotForExtensions { .. } => Part::Number,
+        Rule::RequiredInProto3
+        | Rule::GroupInProto3
+        | Rule::RequiredExtension
+        | Rule::PackedNotPackable
+        | Rule::LazyNotMessage
+        | Rule::JsTypeNotLarge
+        | Rule::MapKey
+        | Rule::ExtensionOfMessageSet
+        | Rule::EnumOfProto2
+        | Rule::MapValueNotZero => Part::Type,
+        Rule::DefaultInProto3
+        | Rule::DefaultOfRepeated
+        | Rule::DefaultOfMessage
+        | Rule::DefaultNotBool
+        | Rule::NoValueOfName => Part::Default,
+        Rule::DefaultNotNumber | Rule::DefaultOutOfRange | Rule::DefaultNegative => {
+            Part::DefaultNumber
+        }
+        Rule::MethodTypeNotMessage => Part::MethodType,
+        Rule::RangeNotPositive { start } => Part::RangeStart(start),
+        Rule::RangeEmpty { start } => Part::RangeStart(start),
+        Rule::RangesOverlap { start } => Part::RangeStart(start),
+        Rule::ImportedTwice
+        | Rule::ImportUnused
+        | Rule::LiteImport
+        | Rule::NameReservedTwice
+        | Rule::NameInUse {
+            kind: NamedKind::Package,
+            ..
+        } => Part::Whole,
+        _ => Part::Name,
     }
 }
 

@@ -1,28 +1,45 @@
 //! Labels and types of fields.
 
+use crate::page::{Page, page_name};
 use protobuf_parse::{DescriptorProto, FieldDescriptorProto};
 use protobuf_parse_index::{label_word, type_word};
 use std::alloc::AllocError;
 
-/// Whether a package or a type comes with the library. The page has no section for it.
+/// Whether a package or a type comes with the library. No page has a section for it.
 pub fn is_shipped(name: &str) -> bool {
     name == "google.protobuf" || name.starts_with("google.protobuf.")
 }
 
-/// The full name of a message or an enum, with a link to its section.
-pub fn put_link(text: &mut String, type_name: &str) -> Result<(), AllocError> {
+/// The full name of a message or an enum, with a link to its section on the page of its file.
+pub fn put_link(
+    text: &mut String,
+    page: &Page<'_, '_, '_>,
+    type_name: &str,
+) -> Result<(), AllocError> {
     let name = type_name.trim_start_matches('.');
     if is_shipped(name) {
-        write!(text, "`{name}`")
-    } else {
-        write!(text, "[{name}](#{name})")
+        return write!(text, "`{name}`");
     }
+    let file = match (
+        page.index.message(type_name),
+        page.index.enumeration(type_name),
+    ) {
+        (Some(message), _) => message.file,
+        (None, Some(each)) => each.file,
+        (None, None) => return write!(text, "`{name}`"),
+    };
+    let target = page_name(*text.allocator(), file)?;
+    write!(text, "[{name}]({target}#{name})")
 }
 
 /// The type of a field that is no map.
-pub fn put_type(text: &mut String, field: &FieldDescriptorProto) -> Result<(), AllocError> {
+pub fn put_type(
+    text: &mut String,
+    page: &Page<'_, '_, '_>,
+    field: &FieldDescriptorProto,
+) -> Result<(), AllocError> {
     match &field.type_name {
-        Some(name) => put_link(text, name),
+        Some(name) => put_link(text, page, name),
         None => text.push_str(type_word(field.type_)),
     }
 }
@@ -30,19 +47,20 @@ pub fn put_type(text: &mut String, field: &FieldDescriptorProto) -> Result<(), A
 /// The label and the type of a field of this message, which has this full name.
 pub fn put_label_and_type(
     text: &mut String,
+    page: &Page<'_, '_, '_>,
     scope: &str,
     message: &DescriptorProto,
     field: &FieldDescriptorProto,
 ) -> Result<(), AllocError> {
     if let Some([key, value]) = entry_of(scope, message, field) {
         text.push_str("map | ")?;
-        put_type(text, key)?;
+        put_type(text, page, key)?;
         text.push_str(" to ")?;
-        return put_type(text, value);
+        return put_type(text, page, value);
     }
     put_label(text, message, field)?;
     text.push_str(" | ")?;
-    put_type(text, field)
+    put_type(text, page, field)
 }
 
 fn put_label(

@@ -17,6 +17,7 @@ pub mod Closing
 pub mod EachOne
 pub mod DeclaredMessages
 mod ExtendGroups
+pub mod NamedKinds
 pub mod NamedTypes
 pub mod SameNames
 pub mod AddedFaults

@@ -14,8 +14,6 @@ use Rattle.protobuf_parse_syntax.specs.Trees.{MessageStatementList, no_statement
 use Rattle.protobuf_parse_syntax.specs.Trees.{nested_message, MethodSyntax, ServiceSyntax}
 use Rattle.protobuf_parse_syntax.specs.Trees.{StatementSyntax, file_message, file_extend}
 use Rattle.protobuf_parse_syntax.specs.Trees.{file_service, FileSyntax}
-use Rattle.protobuf_parse_syntax.specs.declared.tree.field.Scalar.{Scalar}
-use Rattle.protobuf_parse_syntax.specs.declared.tree.field.Scalar.TheVariants as word
 use Rattle.protobuf_parse_model.specs.declared.error.ElabErrorKind.TheVariants.{DanglingTypeName}
 use Rattle.protobuf_parse_model.specs.declared.descriptor.FieldType.TheVariants as kind
 use Rattle.protobuf_parse_model.specs.Options.{MessageOptionValues}
@@ -23,12 +21,12 @@ use Rattle.protobuf_parse_model.specs.Descriptors.{Text, FieldDescriptor, Messag
 use Rattle.protobuf_parse_model.specs.Descriptors.{MessageDescriptor, messages_of_list}
 use Rattle.protobuf_parse_model.specs.Descriptors.{MethodDescriptor, ServiceDescriptor}
 use Rattle.protobuf_parse_model.specs.Descriptors.{FileDescriptor}
-use Rattle.protobuf_parse_model.specs.Faults.{Among, Wrong, placed}
+use Rattle.protobuf_parse_model.specs.Faults.{Among, placed}
 use Rattle.protobuf_parse_model.specs.Duplicates.{fault_when, duplicates}
 use Rattle.protobuf_parse_model.specs.Statements.{group_body, message_body, entry_name, is_map}
 use Rattle.protobuf_parse_model.specs.Statements.{oneof_fields, groups}
-use Rattle.protobuf_parse_model.specs.Declarations.{Scope, full_name, DeclaredType, MessageOrEnum}
-use Rattle.protobuf_parse_model.specs.Declarations.{a_message, an_enum, generated_by, generated_of}
+use Rattle.protobuf_parse_model.specs.Declarations.{Scope, full_name, DeclaredType}
+use Rattle.protobuf_parse_model.specs.Declarations.{a_message, generated_by, generated_of}
 use Rattle.protobuf_parse_model.specs.Declarations.{generated_in, statement_generated}
 use Rattle.protobuf_parse_model.specs.Declarations.{file_generated}
 use Rattle.protobuf_parse_model.specs.Lookup.{meant}
@@ -38,15 +36,13 @@ use Rattle.protobuf_parse_model.specs.BuiltinOptions.{oneof_table, service_table
 use Rattle.protobuf_parse_model.specs.BuiltinOptions.{file_table}
 use Rattle.protobuf_parse_model.specs.declared.customs.Construct.TheVariants as of
 use Rattle.protobuf_parse_model.specs.OptionMessages.{entry_options}
-use Rattle.protobuf_parse_model.specs.Descriptors.{kind_of_scalar}
-use Rattle.protobuf_parse_model.specs.Declarations.{kind_of_type}
 use Rattle.protobuf_parse_model.proofs.Blaming.{among_left, among_right}
 use Rattle.protobuf_parse_elaboration.specs.ConstructOptions.{construct_faults}
 use Rattle.protobuf_parse_elaboration.specs.Fields as specs
 use Rattle.protobuf_parse_elaboration.specs.Fields.{FieldTypeOf, type_of_meaning, type_of}
 use Rattle.protobuf_parse_elaboration.specs.Fields.{inner_type_faults, type_faults}
 use Rattle.protobuf_parse_elaboration.specs.Fields.{if_not_told, is_told_alike}
-use Rattle.protobuf_parse_elaboration.specs.Fields.{faults_of_options, FieldOwner, of_message}
+use Rattle.protobuf_parse_elaboration.specs.Fields.{FieldOwner, of_message}
 use Rattle.protobuf_parse_elaboration.specs.Fields.{field_of, field_statement_of, field_faults}
 use Rattle.protobuf_parse_elaboration.specs.Fields.{fields_of_group, map_faults, grouped_faults}
 use Rattle.protobuf_parse_elaboration.specs.Fields.{field_statement_faults, extension_faults}
@@ -78,60 +74,14 @@ use Rattle.protobuf_parse_elaboration.proofs.DeclaredMessages.{front, message-to
 use Rattle.protobuf_parse_elaboration.proofs.Lookups.{meaning_declared}
 use Rattle.protobuf_parse_elaboration.proofs.Gathering.{none_placed}
 use Rattle.protobuf_parse_elaboration.proofs.Orders.{among-map}
+use Rattle.protobuf_parse_elaboration.proofs.NamedKinds.{scalar-plain, kind-named, own_faults}
+use Rattle.protobuf_parse_elaboration.proofs.NamedKinds.{own-none, extension-none, extendee-is}
+use Rattle.protobuf_parse_elaboration.proofs.NamedKinds.{full-stands, message-kind}
 use Rattle.protobuf_parse_elaboration.proofs.EachOne.{no-left, no-right, all-left, all-right}
 use Rattle.protobuf_parse_elaboration.proofs.EachOne.{all-both, all-flat, all-map, all-among}
 use Rattle.protobuf_parse_elaboration.proofs.EachOne.{all-from, none-each, IsClean, clean-each}
 use Rattle.protobuf_parse_elaboration.proofs.ExtendGroups.{generates-none, groups-tell}
 use Rattle.protobuf_parse_elaboration.proofs.ExtendGroups.{stands-alone}
-
--- ---- kinds and faults
-
--- a scalar has no name
-scalar-plain : (s : Scalar) → false ≡ has_name (kind_of_scalar s)
-scalar-plain word.Int32 = refl
-scalar-plain _ = refl
-
--- a message and an enum have one
-kind-named : (k : MessageOrEnum) → true ≡ has_name (kind_of_type k)
-kind-named a_message = refl
-kind-named an_enum = refl
-
--- the faults in the type of a field; the type of a group is its own
-abbrev own_faults : Environment → FieldStatementSyntax → List Wrong
-own_faults env (field f) = type_faults env f.name f.type_
-own_faults env (group at label name number fields) = []
-
--- they are among those of the field
-own-none : (env : Environment) (s : FieldStatementSyntax) → field_statement_faults env s ≡ []
-    → own_faults env s ≡ []
-own-none env (field f) h =
-    none_placed f.place (type_faults env f.name f.type_)
-    (no-left (placed f.place (type_faults env f.name f.type_))
-    (faults_of_options env (type_of env f.name f.type_).kind f.name f.options) h)
-own-none env (group at label name number fields) h = refl
-
--- a field without faults in an `extend` has none in a message
-extension-none : (env : Environment) (s : FieldStatementSyntax) → extension_faults env s ≡ []
-    → field_statement_faults env s ≡ []
-extension-none env (field f) h = no-right (placed f.place (map_faults f)) (field_faults env f) h
-extension-none env (group at label name number fields) h = h
-
--- what a field extends is what its owner says
-extendee-is : (env : Environment) (owner : FieldOwner) (s : FieldStatementSyntax)
-    → (field_statement_of env owner s).extendee ≡ owner.extendee
-extendee-is env owner (field f) = refl
-extendee-is env owner (group at label name number fields) = refl
-
--- a name without faults has a full name
-full-stands : (n : Text) (o : Option DeclaredType) → missing n o ≡ []
-    → IsSome (option_map (λ (d : DeclaredType). d.name) o)
-full-stands n None h = absurd cc
-full-stands n (Some d) h = refl
-
--- only of a message is the kind so
-message-kind : (k : MessageOrEnum) → kind_of_type k ≡ kind.Message → k ≡ a_message
-message-kind a_message e = refl
-message-kind an_enum e = absurd cc
 
 -- `P` holds of the names of types, `M` of those of messages
 module _ (P M : Text → Type 0) (any : (name : Text) → M name → P name) (customs : Customs) where

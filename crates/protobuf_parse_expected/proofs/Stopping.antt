@@ -16,8 +16,8 @@ use Rattle.protobuf_parse_syntax.specs.Parsing.{IsFaultOf, IsGrammarFault}
 use Rattle.protobuf_parse_syntax.specs.Trees.{FileSyntax}
 use Rattle.protobuf_parse_expected.specs.Expected.{NeverGoesOn, NoFileBegins}
 use Rattle.protobuf_parse_expected.specs.Reading.{IsReading, is_at, reading_at, stops}
-use Rattle.protobuf_parse_expected.specs.declared.reading.Reading.{Reading}
-use Rattle.protobuf_parse_expected.specs.declared.reading.Reading.TheVariants as reading
+use Rattle.protobuf_parse_expected.specs.declared.reading.Probed.{Probed}
+use Rattle.protobuf_parse_expected.specs.declared.reading.Probed.TheVariants as probed
 
 -- it is one that stops
 stopping : (ts : List Lexeme) (last at : Place) (e : ParserError) → stops e ≡ true
@@ -78,7 +78,7 @@ before-end text e s only read (inr (t, has, fault)) apart is =
         absurd cc
 
 -- what is known of a text that was refused
-pub reading-there : (text : Bytes) (e : ParserErrorWithLocation) (s : Stream) (r : Reading)
+pub reading-there : (text : Bytes) (e : ParserErrorWithLocation) (s : Stream) (r : Probed)
     → ((t : Stream) → HasTokens text t → s ≡ t)
     → ((er : ParserError) (at : Place) → IsRefused text er at → ⊥)
     → (e ≡ out_of_memory) ⊎ IsFaultOf text e.error (error_place e)
@@ -89,7 +89,7 @@ reading-there text e s r only read (inr fault) other is =
     subst (IsReading text) (sym is) (decide (is_at e s.end) (stops e.error) refl refl)
   where
     decide : (a b : Bool) → is_at e s.end ≡ a → stops e.error ≡ b
-        → IsReading text (if a then reading.Open else (if b then reading.Never else reading.Other))
+        → IsReading text (if a then probed.Open else (if b then probed.Never else probed.Other))
     decide true b p q = tt
     decide false true p q = before-end text e s only read fault p q
     decide false false p q = tt

@@ -10,13 +10,13 @@ use Rattle.protobuf_parse_syntax.specs.Parsing.{HasTree}
 use Rattle.protobuf_parse_syntax.specs.Trees.{FileSyntax}
 use Rattle.protobuf_parse_expected.specs.Expected.{NeverGoesOn}
 use Rattle.protobuf_parse_expected.specs.declared.ending.Longer.{Longer}
-use Rattle.protobuf_parse_expected.specs.declared.reading.Reading.{Reading}
-use Rattle.protobuf_parse_expected.specs.declared.reading.Reading.TheVariants as reading
+use Rattle.protobuf_parse_expected.specs.declared.reading.Probed.{Probed}
+use Rattle.protobuf_parse_expected.specs.declared.reading.Probed.TheVariants as probed
 
 -- what is known
-abbrev pub IsReading : Bytes → Reading → Type 0
-IsReading text reading.Whole = (t : FileSyntax) × HasTree text t
-IsReading text reading.Never = NeverGoesOn text
+abbrev pub IsReading : Bytes → Probed → Type 0
+IsReading text probed.Whole = (t : FileSyntax) × HasTree text t
+IsReading text probed.Never = NeverGoesOn text
 IsReading text _ = Unit {0}
 
 -- whether the fault stands at the place
@@ -36,9 +36,9 @@ stops error.OnlyFieldsInGroup = true
 stops _ = false
 
 -- what the fault tells of a text with that end
-abbrev pub reading_at : ParserErrorWithLocation → (end : Place) → Reading
-reading_at e end = if is_at e end then reading.Open
-    else (if stops e.error then reading.Never else reading.Other)
+abbrev pub reading_at : ParserErrorWithLocation → (end : Place) → Probed
+reading_at e end = if is_at e end then probed.Open
+    else (if stops e.error then probed.Never else probed.Other)
 
 -- a text that goes on with more, and has a tree where it says so
 pub record IsLonger (text : Bytes) (longer : Longer) : Type 0 where

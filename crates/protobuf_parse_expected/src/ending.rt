@@ -4,7 +4,7 @@ ghost use Rattle.std.specs.Prelude.{◌≡◌, IfOk, IfSome, true};
 ghost use Rattle.protobuf_parse_expected.specs.Expected.{GoesOn};
 ghost use Rattle.protobuf_parse_expected.specs.Reading.{IsLonger};
 
-use crate::reading::{Reading, read};
+use crate::reading::{Probed, read};
 use std::alloc::{AllocError, Global};
 
 /// How many tokens an end has at most: a brace for each of a hundred levels, and a statement.
@@ -64,15 +64,15 @@ fn with_token(alloc: Global, text: &str) -> Result<Option<Longer>, AllocError>
     for token in &TOKENS {
         let longer = format!(in alloc; "{text} {token}")?;
         match read(alloc, &longer)? {
-            Reading::Whole => return Ok(Some(Longer {
+            Probed::Whole => return Ok(Some(Longer {
                 text: longer,
                 is_whole: true,
             })),
-            Reading::Open => return Ok(Some(Longer {
+            Probed::Open => return Ok(Some(Longer {
                 text: longer,
                 is_whole: false,
             })),
-            Reading::Never | Reading::Other => {}
+            Probed::Never | Probed::Other => {}
         }
     }
     Ok(None)

@@ -6,6 +6,3 @@ mod reading;
 mod verdict;
 
 pub use verdict::{Verdict, verdicts};
-
-#[cfg(test)]
-mod tests;

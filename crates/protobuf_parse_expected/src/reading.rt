@@ -10,7 +10,7 @@ use std::alloc::{AllocError, Global};
 
 /// What is known of a text that may go on.
 #[derive(Clone, Copy, Debug, PartialEq, Eq)]
-pub enum Reading {
+pub enum Probed {
     /// It has a tree.
     Whole,
     /// Nothing is wrong with it but that it ends.
@@ -22,11 +22,11 @@ pub enum Reading {
 }
 
 /// Reads the text. The one error is that memory is short.
-pub fn read(alloc: Global, text: &str) -> Result<Reading, AllocError>
+pub fn read(alloc: Global, text: &str) -> Result<Probed, AllocError>
     ensures { IfOk result (IsReading text.now) }
 {
     let error = match parse_file(alloc, text) {
-        Ok(_) => return Ok(Reading::Whole),
+        Ok(_) => return Ok(Probed::Whole),
         Err(error) => error,
     };
     if let ParserError::Memory = error.error {
@@ -36,21 +36,21 @@ pub fn read(alloc: Global, text: &str) -> Result<Reading, AllocError>
         Ok(stream) => Ok(reading_at(&error, stream.end)),
         Err(refused) => match refused.error {
             ParserError::Memory => Err(AllocError),
-            _ => Ok(Reading::Other),
+            _ => Ok(Probed::Other),
         },
     }
 }
 
 /// What the fault tells of a text with that end.
-fn reading_at(error: &ParserErrorWithLocation, end: Place) -> Reading
+fn reading_at(error: &ParserErrorWithLocation, end: Place) -> Probed
     ensures { result ≡ spec.reading_at error.now end }
 {
     if is_at(error, end) {
-        Reading::Open
+        Probed::Open
     } else if stops(error.error) {
-        Reading::Never
+        Probed::Never
     } else {
-        Reading::Other
+        Probed::Other
     }
 }
 

@@ -5,7 +5,7 @@ ghost use Rattle.protobuf_parse_expected.specs.Expected as spec;
 ghost use Rattle.protobuf_parse_expected.specs.Expected.{AreTold, Tells, texts_of};
 
 use crate::ending::has_end;
-use crate::reading::{Reading, read};
+use crate::reading::{Probed, read};
 use std::alloc::{AllocError, Global};
 
 /// Whether a token can stand behind the front of a text.
@@ -44,10 +44,10 @@ fn told_of(alloc: Global, front: &str, token: &str) -> Result<Verdict, AllocErro
 {
     let text = behind(alloc, front, token)?;
     match read(alloc, &text)? {
-        Reading::Whole => Ok(Verdict::Can),
-        Reading::Never => Ok(Verdict::Never),
-        Reading::Other => Ok(Verdict::Unsure),
-        Reading::Open => {
+        Probed::Whole => Ok(Verdict::Can),
+        Probed::Never => Ok(Verdict::Never),
+        Probed::Other => Ok(Verdict::Unsure),
+        Probed::Open => {
             if has_end(alloc, &text)? {
                 Ok(Verdict::Can)
             } else {

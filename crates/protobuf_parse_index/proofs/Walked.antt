@@ -8,7 +8,8 @@ use Rattle.protobuf_parse_model.specs.declared.descriptor.DescriptorProto.{Descr
 use Rattle.protobuf_parse_model.specs.declared.descriptor.DescriptorProto.{out-DescriptorProto}
 use Rattle.protobuf_parse_model.specs.Descriptors.{Text, FieldDescriptor}
 use Rattle.protobuf_parse_model.specs.Descriptors.{EnumDescriptor, MessageDescriptor, a_message}
-use Rattle.protobuf_parse_model.specs.Descriptors.{messages_of_list, message_parts, message_view}
+use Rattle.protobuf_parse_model.specs.Descriptors.{messages_of_list, message_view}
+use Rattle.protobuf_parse_model.specs.MessageParts.{message_parts}
 use Rattle.protobuf_parse_model.specs.Descriptors.{MessageParts}
 use Rattle.protobuf_parse_model.proofs.Levels.{message_view_is}
 use Rattle.protobuf_parse_model.specs.Descriptors.{parts_seen}

@@ -6,6 +6,7 @@
 
 mod linted;
 mod rules;
+mod texts;
 mod told;
 
 use crate::told::told;

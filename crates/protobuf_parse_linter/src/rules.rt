@@ -1,14 +1,15 @@
 //! The linter's own rules.
 
-use crate::linted::{Linted, LintedFiles};
+use crate::linted::{Finding, tell};
+use crate::texts::{Linted, Places};
 use anyhow::{Context, Result};
 use protobuf_parse::{DescriptorProto, FieldDescriptorProto, ProtobufAbsPathRef, camel_case};
-use protobuf_parse_diagnostics::{DeclaredKind, Diagnostic};
+use protobuf_parse_diagnostics::Diagnostic;
 use protobuf_parse_index::{Declared, Index, custom_options, lower_snake_case};
-use std::alloc::{AllocError, Global};
+use std::alloc::Global;
 
 /// What the rules find in the files.
-pub fn lint(alloc: Global, files: &LintedFiles<'_>, index: &Index<'_>) -> Result<Vec<Diagnostic>> {
+pub fn lint(alloc: Global, files: &Places<'_>, index: &Index<'_>) -> Result<Vec<Diagnostic>> {
     let mut told = Vec::new(alloc);
     for message in index.messages() {
         if let Some(file) = files.get(message.file) {
@@ -31,31 +32,27 @@ fn is_map_entry(message: &DescriptorProto) -> bool {
 fn lint_message(
     alloc: Global,
     told: &mut Vec<Diagnostic>,
-    file: &Linted,
+    file: &Linted<'_>,
     index: &Index<'_>,
     message: &Declared<'_, DescriptorProto>,
 ) -> Result<()> {
     let name = message.descriptor.name.as_str();
     let camel = camel_case(alloc, name)?;
     if camel.as_str() != name {
-        told.push(file.warning(
-            alloc,
-            DeclaredKind::Message,
-            &message.full_name,
-            "message-name",
-            format!(in alloc; "the name of `{name}` is not in CamelCase")?,
-            format!(in alloc; "call it `{camel}`")?,
-        )?)?;
+        let finding = Finding {
+            rule: "message-name",
+            message: format!(in alloc; "the name of `{name}` is not in CamelCase")?,
+            help: format!(in alloc; "call it `{camel}`")?,
+        };
+        tell(alloc, told, file, &message.full_name, finding)?;
     }
     if !has_owner(alloc, index, message.descriptor)? {
-        told.push(file.warning(
-            alloc,
-            DeclaredKind::Message,
-            &message.full_name,
-            "no-owner",
-            format!(in alloc; "`{name}` has no owner")?,
-            format!(in alloc; "set `option (shop.owner)`")?,
-        )?)?;
+        let finding = Finding {
+            rule: "no-owner",
+            message: format!(in alloc; "`{name}` has no owner")?,
+            help: format!(in alloc; "set `option (shop.owner)`")?,
+        };
+        tell(alloc, told, file, &message.full_name, finding)?;
     }
     for field in &message.descriptor.field {
         lint_field(alloc, told, file, &message.full_name, field)?;
@@ -79,33 +76,31 @@ fn has_owner(alloc: Global, index: &Index<'_>, message: &DescriptorProto) -> Res
 fn lint_field(
     alloc: Global,
     told: &mut Vec<Diagnostic>,
-    file: &Linted,
+    file: &Linted<'_>,
     scope: &str,
     field: &FieldDescriptorProto,
-) -> Result<(), AllocError> {
+) -> Result<()> {
     let name = field.name.as_str();
     let full_name = format!(in alloc; "{scope}.{name}")?;
     let snake = lower_snake_case(alloc, name)?;
     if snake.as_str() != name {
-        told.push(file.warning(
-            alloc,
-            DeclaredKind::Field,
-            &full_name,
-            "field-name",
-            format!(in alloc; "the name of `{name}` is not in snake_case")?,
-            format!(in alloc; "call it `{snake}`")?,
-        )?)?;
+        let finding = Finding {
+            rule: "field-name",
+            message: format!(in alloc; "the name of `{name}` is not in snake_case")?,
+            help: format!(in alloc; "call it `{snake}`")?,
+        };
+        tell(alloc, told, file, &full_name, finding)?;
     }
     if is_deprecated(field) {
         let number = field.number;
-        told.push(file.warning(
-            alloc,
-            DeclaredKind::Field,
-            &full_name,
-            "deprecated",
-            format!(in alloc; "`{name}` is deprecated")?,
-            format!(in alloc; "once nobody sets it, write `reserved {number};` in its place")?,
-        )?)?;
+        let finding = Finding {
+            rule: "deprecated",
+            message: format!(in alloc; "`{name}` is deprecated")?,
+            help: format!(in alloc;
+                "once nobody sets it, write `reserved {number};` in its place"
+            )?,
+        };
+        tell(alloc, told, file, &full_name, finding)?;
     }
     Ok(())
 }

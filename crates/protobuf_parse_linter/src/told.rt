@@ -1,7 +1,7 @@
 //! All that is told of a run.
 
-use crate::linted::linted_files;
 use crate::rules::lint;
+use crate::texts::{places_of, texts_of};
 use anyhow::Result;
 use protobuf_parse::{RunInput, RunLog, google_files, violations};
 use protobuf_parse_diagnostics::{
@@ -20,8 +20,8 @@ pub fn told(alloc: Global, log: &RunLog, inputs: &[RunInput]) -> Result<Vec<Diag
             let broken = violations(alloc, files)?;
             told.append(&mut rule_diagnostics(alloc, &sources, &broken, RuleLevel::Error)?)?;
             let index = Index::of(alloc, files)?;
-            let linted = linted_files(alloc, &sources, inputs)?;
-            told.append(&mut lint(alloc, &linted, &index)?)?;
+            let texts = texts_of(alloc, &index, &sources, inputs)?;
+            told.append(&mut lint(alloc, &places_of(alloc, &index, &texts)?, &index)?)?;
         }
         Err(fault) => told.push(fault_diagnostic(alloc, &sources, fault)?)?,
     }

@@ -6,7 +6,8 @@ use Rattle.std.proofs.Common.{append_assoc}
 use Rattle.protobuf_parse_base.specs.DeclaredNames.{name_bytes}
 use Rattle.protobuf_parse_model.specs.Descriptors.{FieldDescriptor, MessageDescriptor, Text}
 use Rattle.protobuf_parse_model.specs.Descriptors.{messages_of_list}
-use Rattle.protobuf_parse_model.specs.Descriptors.{message_parts, message_view}
+use Rattle.protobuf_parse_model.specs.Descriptors.{message_view}
+use Rattle.protobuf_parse_model.specs.MessageParts.{message_parts}
 use Rattle.protobuf_parse_model.proofs.Levels.{message_view_is}
 use Rattle.protobuf_parse_model.specs.declared.descriptor.DescriptorProto.{DescriptorProto}
 use Rattle.protobuf_parse_model.specs.declared.descriptor.DescriptorProto.{out-DescriptorProto}

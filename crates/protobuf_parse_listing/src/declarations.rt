@@ -1,25 +1,25 @@
 //! The lines of files, messages, enums and services.
 
 ghost use Rattle.std.specs.Prelude.{◌≡◌, ℕ, ◌+◌, ◌++◌, IfOk, codes, flat_map, map};
-ghost use Rattle.std.specs.Ordering.{nat_cmp};
-ghost use Rattle.std.specs.BTreeSet.{contains};
 ghost use Rattle.std.specs.String.{string_bytes};
 ghost use Rattle.protobuf_parse_model.specs.Descriptors.{enum_range_view, enum_value_view};
 ghost use Rattle.protobuf_parse_model.specs.Descriptors.{enum_view, extension_range_view};
-ghost use Rattle.protobuf_parse_model.specs.Descriptors.{file_view, message_parts, message_view};
+ghost use Rattle.protobuf_parse_model.specs.Descriptors.{file_view, message_view};
+ghost use Rattle.protobuf_parse_model.specs.MessageParts.{message_parts};
 ghost use Rattle.protobuf_parse_model.specs.Descriptors.{method_view, oneof_view};
 ghost use Rattle.protobuf_parse_model.specs.Descriptors.{reserved_range_view, service_view};
 ghost use Rattle.protobuf_parse_listing.specs.Listing as spec;
 ghost use Rattle.protobuf_parse_listing.specs.Puts.{Puts};
 
 use crate::fields::{put_extensions, put_fields, put_words_if};
+use crate::imports::{import_words, positions};
+use crate::options::{
+    put_enum_options, put_enum_value_options, put_file_options, put_message_options,
+    put_method_options, put_oneof_options, put_service_options,
+};
 use crate::pieces::{
     begin_line, end_line, put_line, put_line_if_some, put_number, put_optional_line,
     put_range_line, put_reserved_names,
-};
-use crate::settings::{
-    put_enum_options, put_enum_value_options, put_file_options, put_message_options,
-    put_method_options, put_oneof_options, put_service_options,
 };
 use protobuf_parse_model::{
     DescriptorProto, EnumDescriptorProto, EnumReservedRange, EnumValueDescriptorProto,
@@ -27,7 +27,6 @@ use protobuf_parse_model::{
     ReservedRange, ServiceDescriptorProto,
 };
 use std::alloc::{AllocError, Global};
-use std::collections::BTreeSet;
 
 /// Adds the lines of a file: what it says itself, then what it declares.
 pub fn put_file(
@@ -80,45 +79,6 @@ fn put_imports(
         put_line(text, 1, words, path)?;
     }
     Ok(())
-}
-
-/// The positions as a set.
-fn positions(alloc: Global, listed: &[i32]) -> Result<BTreeSet<usize>, AllocError>
-    ensures { IfOk result (λ s. (i : ℕ) → contains nat_cmp s i ≡ spec.is_position i listed.now) }
-{
-    let mut positions = BTreeSet::new(alloc);
-    for position in listed {
-        match position_of(position) {
-            Some(position) => {
-                positions.insert(position)?;
-            }
-            None => {}
-        }
-    }
-    Ok(positions)
-}
-
-/// The number as a position, from 0 on.
-fn position_of(listed: &i32) -> Option<usize>
-    ensures { result ≡ spec.position_of listed.now }
-{
-    if *listed < 0 {
-        None
-    } else {
-        Some(listed.unsigned_abs() as usize)
-    }
-}
-
-fn import_words(is_public: bool, is_weak: bool) -> &'static str
-    ensures { result.now ≡ spec.import_words is_public is_weak }
-{
-    if is_public {
-        "import public "
-    } else if is_weak {
-        "import weak "
-    } else {
-        "import "
-    }
 }
 
 /// What a file declares.

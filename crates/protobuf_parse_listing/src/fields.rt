@@ -10,8 +10,8 @@ ghost use Rattle.protobuf_parse_listing.specs.Listing as spec;
 ghost use Rattle.protobuf_parse_listing.specs.Parts.{after_label, front_after_label};
 ghost use Rattle.protobuf_parse_listing.specs.Puts.{Puts};
 
+use crate::options::put_field_options;
 use crate::pieces::{begin_line, end_line, end_quoted, put_number};
-use crate::settings::put_field_options;
 use protobuf_parse_model::{FieldDescriptorProto, FieldType, Label, label_word, type_word};
 use std::alloc::{AllocError, Global};
 

@@ -3,9 +3,11 @@
 
 mod declarations;
 mod fields;
+pub mod imports;
 mod laws;
+mod options;
 mod pieces;
-mod settings;
+pub mod settings;
 
 ghost use Rattle.std.specs.Prelude.{◌≡◌, IfOk, map};
 ghost use Rattle.std.specs.String.{string_bytes};

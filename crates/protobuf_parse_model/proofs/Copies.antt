@@ -5,7 +5,8 @@ use Rattle.std.specs.List.{AllZip}
 use Rattle.protobuf_parse_base.specs.DeclaredNames.{name_bytes}
 use Rattle.protobuf_parse_model.specs.Descriptors.{MessageDescriptor, message_step}
 use Rattle.protobuf_parse_model.specs.Descriptors.{enum_value_view, enum_view, field_view}
-use Rattle.protobuf_parse_model.specs.Descriptors.{file_view, message_parts, message_view}
+use Rattle.protobuf_parse_model.specs.Descriptors.{file_view, message_view}
+use Rattle.protobuf_parse_model.specs.MessageParts.{message_parts}
 use Rattle.protobuf_parse_model.specs.Descriptors.{method_view, oneof_view}
 use Rattle.protobuf_parse_model.specs.Descriptors.{parts_of_message, service_view}
 use Rattle.protobuf_parse_model.specs.Options.{enum_options_view, file_options_view}

@@ -5,7 +5,8 @@ use Rattle.protobuf_parse_syntax.specs.Trees.{MessageStatementSyntax, message_st
 use Rattle.protobuf_parse_model.specs.declared.descriptor.DescriptorProto.{DescriptorProto}
 use Rattle.protobuf_parse_model.specs.declared.descriptor.DescriptorProto.{out-DescriptorProto}
 use Rattle.protobuf_parse_model.specs.declared.descriptor.DescriptorProto.TheFolds.{fold_out-DescriptorProto}
-use Rattle.protobuf_parse_model.specs.Descriptors.{MessageDescriptor, a_message, message_parts}
+use Rattle.protobuf_parse_model.specs.Descriptors.{MessageDescriptor, a_message}
+use Rattle.protobuf_parse_model.specs.MessageParts.{message_parts}
 use Rattle.protobuf_parse_model.specs.Descriptors.{message_step, message_view, messages_list}
 use Rattle.protobuf_parse_model.specs.Descriptors.{messages_of_list}
 use Rattle.protobuf_parse_model.specs.Statements.{group_body, message_body}

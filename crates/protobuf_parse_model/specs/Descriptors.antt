@@ -29,7 +29,6 @@ use Rattle.protobuf_parse_model.specs.declared.descriptor.ServiceDescriptorProto
 use Rattle.protobuf_parse_model.specs.declared.descriptor.MethodDescriptorProto.{MethodDescriptorProto}
 use Rattle.protobuf_parse_model.specs.declared.descriptor.DescriptorProto.{DescriptorProto}
 use Rattle.protobuf_parse_model.specs.declared.descriptor.DescriptorProto.{fold-DescriptorProto}
-use Rattle.protobuf_parse_model.specs.declared.descriptor.DescriptorProto.{out-DescriptorProto}
 use Rattle.protobuf_parse_model.specs.declared.descriptor.DescriptorProto.TheOpen.{DescriptorProto-F}
 use Rattle.protobuf_parse_model.specs.declared.descriptor.FileDescriptorProto.{FileDescriptorProto}
 
@@ -216,10 +215,6 @@ message_step m = a_message (parts_of_message m) (messages_of_list m.nested_type.
 -- a message, with those inside it
 abbrev pub message_view : DescriptorProto → MessageDescriptor
 message_view = fold-DescriptorProto MessageDescriptor message_step
-
--- a message without those inside it
-abbrev pub message_parts : DescriptorProto → MessageParts
-message_parts m = parts_of_message (out-DescriptorProto m)
 
 -- a method
 abbrev pub method_view : MethodDescriptorProto → MethodDescriptor

@@ -24,3 +24,4 @@ pub mod AddsByHash
 pub mod DeclaredAtViews
 pub mod SeenParts
 pub mod TableParts
+pub mod MessageParts

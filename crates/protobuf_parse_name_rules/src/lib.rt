@@ -16,6 +16,3 @@ mod services;
 
 pub use files::NameFiles;
 pub use messages::name_violations;
-
-#[cfg(test)]
-mod tests;

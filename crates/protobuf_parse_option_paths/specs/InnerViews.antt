@@ -19,7 +19,6 @@ use Rattle.protobuf_parse_source_info.specs.Info.{LocationSyntax}
 use Rattle.protobuf_parse_source_info.specs.Walks.{Path}
 use Rattle.protobuf_parse_option_paths.specs.Paths.{Lead, count, with_lead, with_path}
 use Rattle.protobuf_parse_option_paths.specs.Bearers.{Bearer, message_bearer, part_bearer}
-use Rattle.protobuf_parse_option_paths.specs.declared.names.Step.{Step}
 
 -- the bearer of a construct in the scope, if there is a construct
 abbrev pub bearer_of_found : Scope → Option Construct → Option Bearer
@@ -53,10 +52,6 @@ field_of_declared found = option_map (λ (d : Declared FieldDescriptor). d.what)
 -- numbers with the names that they have
 abbrev pub numbers_view : List (Bor Text × ℕ) → Numbers
 numbers_view numbers = map (λ (n : Bor Text × ℕ). (n.0.now, n.1)) numbers
-
--- steps that were found
-abbrev pub steps_seen : Option (Vec Step Global) → Option (List Step)
-steps_seen found = option_map (λ (v : Vec Step Global). v.items) found
 
 -- numbers by paths
 abbrev pub Counts : Type 0

@@ -5,3 +5,4 @@ pub mod Paths
 pub mod Views
 pub mod InnerViews
 pub mod Bytes
+pub mod Whole

@@ -25,23 +25,28 @@ use Rattle.protobuf_parse_index.specs.Lookups.{extension_named, message_named}
 use Rattle.protobuf_parse_option_paths.specs.Numbers.{builtin_number}
 use Rattle.protobuf_parse_option_paths.specs.declared.names.Step.{Step}
 
--- the descriptors of files: those that a file sees, whose extensions its options may name, and
--- those that it reaches, whose messages fields may hold
+-- the descriptors of the files that a file reaches, whose messages fields may hold, and which of
+-- them, by their paths, it sees: its options may name the extensions of these
 pub record Files : Type 0 where
-  pub seen : List FileDescriptor
   pub reached : List FileDescriptor
+  pub sees : (path : Text) → Bool
 
 -- ---- fields
 
--- the extension of a full name
-abbrev pub extensions : List FileDescriptor → Meanings FieldDescriptor
-extensions seen name =
-    option_map (λ (s : Standing FieldDescriptor). record { name = name; what = s.what })
-    (extension_named seen name)
+-- an extension of that full name, if its file is seen
+abbrev pub if_seen : Files → (name : Text) → Standing FieldDescriptor
+    → Option (Declared FieldDescriptor)
+if_seen files name s =
+    if files.sees s.file then Some (record { name = name; what = s.what }) else None
+
+-- the extension of a full name: the first of the name, if its file is seen
+abbrev pub extensions : Files → Meanings FieldDescriptor
+extensions files name =
+    option_and_then (if_seen files name) (extension_named files.reached name)
 
 -- the extension that a name means in the scope
-abbrev pub extension_meant : List FileDescriptor → Scope → Text → Option (Declared FieldDescriptor)
-extension_meant seen scope name = meant (extensions seen) scope name
+abbrev pub extension_meant : Files → Scope → Text → Option (Declared FieldDescriptor)
+extension_meant files scope name = meant (extensions files) scope name
 
 -- an extension, if it is one of the message
 abbrev pub if_extends : (message : Text) → FieldDescriptor → Option FieldDescriptor
@@ -64,7 +69,7 @@ abbrev pub part_field : Files → Scope → (message : Text) → OptionPartSynta
 part_field files scope message (direct name) = field_named files.reached message name
 part_field files scope message (extension name) =
     option_and_then (λ (d : Declared FieldDescriptor). if_extends message d.what)
-    (extension_meant files.seen scope name)
+    (extension_meant files scope name)
 
 -- the full name of the message that a field holds
 abbrev pub type_name_of : FieldDescriptor → Text

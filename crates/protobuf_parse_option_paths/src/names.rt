@@ -5,7 +5,8 @@ ghost use Rattle.protobuf_parse_syntax.specs.Trees.{option_name_syntax, option_p
 ghost use Rattle.protobuf_parse_model.specs.Descriptors.{field_view, file_view};
 ghost use Rattle.protobuf_parse_model.specs.SeenFiles.{name_texts};
 ghost use Rattle.protobuf_parse_option_paths.specs.InnerViews.{field_found, field_of_declared};
-ghost use Rattle.protobuf_parse_option_paths.specs.InnerViews.{steps_seen, under_full_name};
+ghost use Rattle.protobuf_parse_option_paths.specs.InnerViews.{under_full_name};
+ghost use Rattle.protobuf_parse_option_paths.specs.Views.{steps_seen};
 ghost use Rattle.protobuf_parse_option_paths.specs.Names as spec;
 ghost use Rattle.protobuf_parse_option_paths.specs.Numbers as numbers;
 ghost use Rattle.protobuf_parse_option_paths.specs.Views.{files_view};
@@ -15,15 +16,16 @@ use protobuf_parse_index::Index;
 use protobuf_parse_model::{Construct, FieldDescriptorProto, Label, Outward};
 use protobuf_parse_syntax::{ProtobufOptionName, ProtobufOptionNamePart};
 use std::alloc::{AllocError, Global};
+use std::collections::BTreeSet;
 
-/// Indexes of the files that the names of a file's options are looked up in.
+/// The files that the names of a file's options are looked up in.
 #[derive(Clone, Copy)]
 pub struct OptionFiles<'i, 'a> {
-    /// Of those that the file sees: itself, those that it imports, and what these import publicly.
-    /// Names of extensions mean extensions of these.
-    pub seen: &'i Index<'a>,
-    /// Of those that it reaches: the messages that fields hold are of these.
+    /// Of all files that it reaches, itself among them: the messages that fields hold are of these.
     pub reached: &'i Index<'a>,
+    /// The proto paths of those that it sees: itself, those that it imports, and what these import
+    /// publicly. Names of extensions mean extensions of these.
+    pub seen: &'i BTreeSet<&'a str>,
 }
 
 /// A field that the name of an option leads through.
@@ -140,7 +142,7 @@ fn part_field<'a>(
     match part {
         ProtobufOptionNamePart::Direct(name) => Ok(field_named(files.reached, message, name)),
         ProtobufOptionNamePart::Ext(name) => {
-            match extension_meant(alloc, files.seen, scope, name)? {
+            match extension_meant(alloc, files, scope, name)? {
                 Some(field) => Ok(if_extends(message, field)),
                 None => Ok(None),
             }
@@ -181,16 +183,16 @@ fn field_called<'f>(
 /// The extension that the name means in the scope.
 fn extension_meant<'a>(
     alloc: Global,
-    seen: &Index<'a>,
+    files: &OptionFiles<'_, 'a>,
     scope: &[&str],
     name: &str,
 ) -> Result<Option<&'a FieldDescriptorProto>, AllocError>
     ensures { IfOk result (λ f. field_found f ≡ field_of_declared
-        (spec.extension_meant (map file_view seen.now) (name_texts scope.now) name.now)) }
+        (spec.extension_meant (files_view files.now) (name_texts scope.now) name.now)) }
 {
     let mut names = Outward::new(alloc, scope, name)?;
     'names: loop {
-        if let Some(field) = declared(seen, names.first()) {
+        if let Some(field) = declared(files, names.first()) {
             return Ok(Some(field));
         }
         match names.rest()? {
@@ -200,14 +202,16 @@ fn extension_meant<'a>(
     }
 }
 
-/// The extension of that full name.
-fn declared<'a>(seen: &Index<'a>, name: &str) -> Option<&'a FieldDescriptorProto>
+/// The extension of that full name, if its file is seen.
+fn declared<'a>(files: &OptionFiles<'_, 'a>, name: &str) -> Option<&'a FieldDescriptorProto>
     ensures { option_map (under_full_name name.now) result
-        ≡ spec.extensions (map file_view seen.now) name.now }
+        ≡ spec.extensions (files_view files.now) name.now }
 {
-    match seen.extension_by_name(name) {
-        Some(extension) => Some(extension.descriptor),
-        None => None,
+    let extension = files.reached.extension_by_name(name)?;
+    if files.seen.contains(extension.file) {
+        Some(extension.descriptor)
+    } else {
+        None
     }
 }
 

@@ -5,7 +5,8 @@ ghost use Rattle.protobuf_parse_syntax.specs.Trees.{option_name_syntax};
 ghost use Rattle.protobuf_parse_model.specs.Descriptors.{file_view};
 ghost use Rattle.protobuf_parse_source_info.specs.Views.{info_view, location_view};
 ghost use Rattle.protobuf_parse_source_info.specs.Walks.{Path};
-ghost use Rattle.protobuf_parse_option_paths.specs.InnerViews.{IsCounted, PutsLead, steps_seen};
+ghost use Rattle.protobuf_parse_option_paths.specs.InnerViews.{IsCounted, PutsLead};
+ghost use Rattle.protobuf_parse_option_paths.specs.Views.{steps_seen};
 ghost use Rattle.protobuf_parse_option_paths.specs.Paths as spec;
 ghost use Rattle.protobuf_parse_option_paths.specs.declared.names.Step.{Step};
 ghost use Rattle.protobuf_parse_option_paths.specs.Views.{files_view};
@@ -31,7 +32,7 @@ use std::collections::BTreeMap;
 ///
 /// ```text
 /// let index = Index::of(alloc, &parsed.file_descriptors)?;
-/// let files = OptionFiles { seen: &index, reached: &index };
+/// let files = OptionFiles { reached: &index, seen: &seen_paths(alloc, &index, file)? };
 /// let info = with_option_paths(alloc, &files, file, source_info(alloc, text, &tree)?)?;
 /// ```
 #[tactic(auto, using(crate::proofs::Leads::none_done, crate::proofs::Leads::one_done, crate::proofs::Leads::all_done))]

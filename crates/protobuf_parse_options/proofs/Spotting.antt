@@ -10,7 +10,8 @@ use Rattle.protobuf_parse_model.specs.Descriptors.{Text, FileDescriptor, Message
 use Rattle.protobuf_parse_model.specs.Descriptors.{MessageDescriptor, MessageDescriptors, a_message}
 use Rattle.protobuf_parse_model.specs.Descriptors.{no_messages, messages, messages_of_list}
 use Rattle.protobuf_parse_model.specs.Descriptors.{messages_list}
-use Rattle.protobuf_parse_model.specs.Descriptors.{message_parts, message_view}
+use Rattle.protobuf_parse_model.specs.Descriptors.{message_view}
+use Rattle.protobuf_parse_model.specs.MessageParts.{message_parts}
 use Rattle.protobuf_parse_model.proofs.Levels.{list_of_is}
 use Rattle.protobuf_parse_model.proofs.Levels.{message_view_is}
 use Rattle.protobuf_parse_model.specs.declared.descriptor.DescriptorProto.{DescriptorProto}

@@ -18,6 +18,3 @@ pub use span::Span;
 pub use split::{records, records_in};
 pub use values::varint as first_varint;
 pub use wire::{Payload, Record};
-
-#[cfg(test)]
-mod tests;

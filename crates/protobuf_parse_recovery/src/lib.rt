@@ -10,6 +10,3 @@ mod statement;
 pub use faults::{MOST_FAULTS, Reading, Rest, parse_faults, read_on};
 pub use laws::{faults_are_of_the_text, places_stay};
 pub use masking::mask;
-
-#[cfg(test)]
-mod tests;

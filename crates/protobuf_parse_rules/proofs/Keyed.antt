@@ -10,16 +10,16 @@ use Rattle.protobuf_parse_model.specs.Descriptors.{Text, EnumDescriptor, EnumVal
 use Rattle.protobuf_parse_model.specs.Descriptors.{FieldDescriptor, MethodDescriptor}
 use Rattle.protobuf_parse_model.specs.Descriptors.{OneofDescriptor, ServiceDescriptor}
 use Rattle.protobuf_parse_wire.specs.Declarations.{name_within}
-use Rattle.protobuf_parse_rules.specs.Keys.{both_keys, enum_keys, field_keys, inside, is_package}
+use Rattle.protobuf_parse_rules.specs.Keys.{enum_keys, field_keys, inner_keys, inside, is_package}
 use Rattle.protobuf_parse_rules.specs.Keys.{keys_at, method_keys, mixed, name_key, no_text}
 use Rattle.protobuf_parse_rules.specs.Keys.{other_keys, own_keys, packages_at}
 use Rattle.protobuf_parse_rules.specs.Keys.{packages_in, service_keys, text_key, value_keys}
-use Rattle.protobuf_parse_rules.specs.Names.{Named, both_named, enum_named, fields_named}
+use Rattle.protobuf_parse_rules.specs.Names.{Named, enum_named, fields_named, inner_named}
 use Rattle.protobuf_parse_rules.specs.Names.{methods_named, named_in, names_at, oneofs_named}
 use Rattle.protobuf_parse_rules.specs.Names.{own_named, package_named, packages_named}
 use Rattle.protobuf_parse_rules.specs.Names.{service_named, values_named}
 use Rattle.protobuf_parse_rules.specs.Bodies.{Content, BodyParts, enums_of, extensions_of, of_file}
-use Rattle.protobuf_parse_rules.specs.Bodies.{of_message}
+use Rattle.protobuf_parse_rules.specs.Bodies.{of_message, services_of}
 use Rattle.protobuf_parse_rules.specs.declared.kind.NamedKind.{NamedKind}
 use Rattle.protobuf_parse_rules.specs.declared.kind.NamedKind.TheVariants as kind
 
@@ -125,20 +125,29 @@ module _ (file scope : Text) where
       ∙ ap (λ k. method_keys (mixed k char.dot) s.method) (within scope s.name))
       ∙ ap (λ ks. method_keys (mixed itself char.dot) s.method ++ ks) (service_others ss))
 
-  both_packages : (c : Content) → packages_of (both_named file scope c) ≡ []
-  both_packages c =
+  inner_packages : (c : Content) → packages_of (inner_named file scope c) ≡ []
+  inner_packages c =
+      let services = flat_map (service_named file scope) (services_of c) in
       let extensions = fields_named file scope kind.Extension (extensions_of c) in
-      packages_of-append (flat_map (enum_named file scope) (enums_of c)) extensions
-      ∙ ap (λ ks. ks ++ packages_of extensions) (enum_packages (enums_of c))
+      packages_of-append (flat_map (enum_named file scope) (enums_of c)) (services ++ extensions)
+      ∙ ap (λ ks. ks ++ packages_of (services ++ extensions)) (enum_packages (enums_of c))
+      ∙ packages_of-append services extensions
+      ∙ ap (λ ks. ks ++ packages_of extensions) (service_packages (services_of c))
       ∙ none_packages file scope kind.Extension field_name refl (extensions_of c)
 
-  both_others : (c : Content) → others_of (both_named file scope c) ≡ both_keys (inside scope) c
-  both_others c =
+  inner_others : (c : Content)
+      → others_of (inner_named file scope c) ≡ inner_keys (inside scope) c
+  inner_others c =
+      let enums = flat_map (enum_keys (inside scope)) (enums_of c) in
+      let services = flat_map (service_named file scope) (services_of c) in
       let extensions = fields_named file scope kind.Extension (extensions_of c) in
-      others_of-append (flat_map (enum_named file scope) (enums_of c)) extensions
-      ∙ ap (λ ks. ks ++ others_of extensions) (enum_others (enums_of c))
-      ∙ ap (λ ks. flat_map (enum_keys (inside scope)) (enums_of c) ++ ks)
-      (all_others file scope kind.Extension field_name refl (extensions_of c))
+      others_of-append (flat_map (enum_named file scope) (enums_of c)) (services ++ extensions)
+      ∙ ap (λ ks. ks ++ others_of (services ++ extensions)) (enum_others (enums_of c))
+      ∙ ap (λ ks. enums ++ ks)
+      (others_of-append services extensions
+      ∙ ap (λ ks. ks ++ others_of extensions) (service_others (services_of c))
+      ∙ ap (λ ks. flat_map (service_keys (inside scope)) (services_of c) ++ ks)
+      (all_others file scope kind.Extension field_name refl (extensions_of c)))
 
 -- ---- packages
 
@@ -164,13 +173,7 @@ own_packages file scope (of_message m) =
     ∙ ap (λ ks. ks ++ packages_of (oneofs_named file scope m.oneof_decl))
     (none_packages file scope kind.Field field_name refl m.field)
     ∙ none_packages file scope kind.Oneof oneof_name refl m.oneof_decl
-own_packages file scope (of_file f) =
-    packages_of-append (package_named file f.«package»)
-    (flat_map (service_named file scope) f.service)
-    ∙ ap (λ ks. packages_of (package_named file f.«package») ++ ks)
-    (service_packages file scope f.service)
-    ∙ append-nil (packages_of (package_named file f.«package»))
-    ∙ named_packages f.«package»
+own_packages file scope (of_file f) = named_packages f.«package»
   where
     named_packages : (o : Option Text)
         → packages_of (package_named file o) ≡ map name_key (package_named file o)
@@ -187,12 +190,7 @@ own_others file scope (of_message m) =
     (all_others file scope kind.Field field_name refl m.field)
     ∙ ap (λ ks. field_keys (inside scope) m.field ++ ks)
     (all_others file scope kind.Oneof oneof_name refl m.oneof_decl))
-own_others file scope (of_file f) =
-    others_of-append (package_named file f.«package»)
-    (flat_map (service_named file scope) f.service)
-    ∙ ap (λ ks. ks ++ others_of (flat_map (service_named file scope) f.service))
-    (no_others f.«package»)
-    ∙ service_others file scope f.service
+own_others file scope (of_file f) = no_others f.«package»
   where
     no_others : (o : Option Text) → others_of (package_named file o) ≡ []
     no_others None = refl
@@ -205,11 +203,11 @@ pub package_keys_are : (ps : List BodyParts)
 package_keys_are [] = refl
 package_keys_are (p ∷ ps) =
     let own = own_named p.file p.scope p.content in
-    let both = both_named p.file p.scope p.content in
-    packages_of-append (own ++ both) (flat_map names_at ps)
+    let inner = inner_named p.file p.scope p.content in
+    packages_of-append (own ++ inner) (flat_map names_at ps)
     ∙ ap (λ ks. ks ++ packages_of (flat_map names_at ps))
-    (packages_of-append own both
-    ∙ ap (λ ks. packages_of own ++ ks) (both_packages p.file p.scope p.content)
+    (packages_of-append own inner
+    ∙ ap (λ ks. packages_of own ++ ks) (inner_packages p.file p.scope p.content)
     ∙ append-nil (packages_of own)
     ∙ own_packages p.file p.scope p.content)
     ∙ ap (λ ks. map name_key (packages_at p) ++ ks) (package_keys_are ps)
@@ -220,11 +218,11 @@ pub other_keys_are : (ps : List BodyParts)
 other_keys_are [] = refl
 other_keys_are (p ∷ ps) =
     let own = own_named p.file p.scope p.content in
-    let both = both_named p.file p.scope p.content in
-    others_of-append (own ++ both) (flat_map names_at ps)
+    let inner = inner_named p.file p.scope p.content in
+    others_of-append (own ++ inner) (flat_map names_at ps)
     ∙ ap (λ ks. ks ++ others_of (flat_map names_at ps))
-    (others_of-append own both
-    ∙ ap (λ ks. ks ++ others_of both) (own_others p.file p.scope p.content)
+    (others_of-append own inner
+    ∙ ap (λ ks. ks ++ others_of inner) (own_others p.file p.scope p.content)
     ∙ ap (λ ks. own_keys (text_key p.scope) (inside p.scope) p.content ++ ks)
-    (both_others p.file p.scope p.content))
+    (inner_others p.file p.scope p.content))
     ∙ ap (λ ks. other_keys p ++ ks) (other_keys_are ps)

@@ -2,7 +2,7 @@
 use Rattle.std.proofs.Common.{◌≡◌, ℕ, Bool, true, false, cond, List, [], ◌∷◌, ◌++◌, refl, sym, ap}
 use Rattle.std.proofs.Common.{◌∙◌}
 use Rattle.std.proofs.Common.{Option, Some, None}
-use Rattle.std.proofs.Common.{subst, arith}
+use Rattle.std.proofs.Common.{subst}
 use Rattle.std.specs.Prelude.{◌&&◌, option_map, find, bytes_eq, is_some}
 use Rattle.std.specs.Cmp.Lexicographic.{slice_cmp}
 use Rattle.std.specs.Ordering.{nat_cmp, is_eq}
@@ -12,15 +12,14 @@ use Rattle.std.specs.BTreeMap.{BTreeMap, IsEmpty, get, is_at, Updates}
 use Rattle.std.specs.Map.{lookup}
 use Rattle.std.proofs.lemmas.List.Folds.{find-append}
 use Rattle.std.proofs.lemmas.Slice.Eq.{bytes_eq-Decides}
-use Rattle.std.proofs.lemmas.Bool.Decides.{nat_tests}
 use Rattle.std.proofs.lemmas.Map.Text.{is_eq-slice_cmp}
+use Rattle.protobuf_parse_model.specs.ByHash.{hash_of}
 use Rattle.protobuf_parse_model.specs.Descriptors.{EnumDescriptor, Text}
 use Rattle.protobuf_parse_rules.specs.Lookups.{NamedEnum, NamedMessage}
 use Rattle.protobuf_parse_rules.specs.Bodies.{Content}
-use Rattle.protobuf_parse_rules.specs.Keys.{text_key}
 use Rattle.protobuf_parse_rules.specs.Known.{Finds, Keyed, keyed, keyed_cmp}
 use Rattle.protobuf_parse_rules.proofs.Claiming.{is_eq-then, or_none}
-use Rattle.protobuf_parse_rules.proofs.Linking.{and_false}
+use Rattle.protobuf_parse_rules.proofs.Linking.{and_false, same_number}
 
 some_found : {V X : Type 0} (view : V → X) (o : V) (first : Option X)
     → option_map view (Some o) ≡ first → is_some first ≡ true
@@ -39,22 +38,19 @@ stays c None true e = let never = e refl in absurd cc
 
 -- ---- texts behind their keys
 
-same_number : (n : ℕ) → is_eq (nat_cmp n n) ≡ true
-same_number n = grind (arith, nat_tests)
-
 with_key : (a b : Text) (t : Bool) → bytes_eq a b ≡ t
-    → (is_eq (nat_cmp (text_key a) (text_key b)) && t) ≡ t
+    → (is_eq (nat_cmp (hash_of a) (hash_of b)) && t) ≡ t
 with_key a b true e =
-    ap (λ (x : Text). is_eq (nat_cmp (text_key a) (text_key x)) && true)
+    ap (λ (x : Text). is_eq (nat_cmp (hash_of a) (hash_of x)) && true)
     (sym ((bytes_eq-Decides a b).0 e))
-    ∙ ap (λ t. t && true) (same_number (text_key a))
-with_key a b false e = and_false (is_eq (nat_cmp (text_key a) (text_key b)))
+    ∙ ap (λ t. t && true) (same_number (hash_of a))
+with_key a b false e = and_false (is_eq (nat_cmp (hash_of a) (hash_of b)))
 
 -- whether two are one
 same_keyed : (a b : Bor (List ℕ)) → is_at (keyed_cmp (keyed a)) (keyed b) ≡ bytes_eq a.now b.now
 same_keyed a b =
-    is_eq-then (nat_cmp (text_key a.now) (text_key b.now)) (slice_cmp nat_cmp a.now b.now)
-    ∙ ap (λ t. is_eq (nat_cmp (text_key a.now) (text_key b.now)) && t)
+    is_eq-then (nat_cmp (hash_of a.now) (hash_of b.now)) (slice_cmp nat_cmp a.now b.now)
+    ∙ ap (λ t. is_eq (nat_cmp (hash_of a.now) (hash_of b.now)) && t)
     (is_eq-slice_cmp a.now b.now)
     ∙ with_key a.now b.now (bytes_eq a.now b.now) refl
 

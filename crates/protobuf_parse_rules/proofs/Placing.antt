@@ -7,7 +7,8 @@ use Rattle.protobuf_parse_base.specs.DeclaredNames.{name_bytes}
 use Rattle.protobuf_parse_model.specs.declared.descriptor.DescriptorProto.{DescriptorProto}
 use Rattle.protobuf_parse_model.specs.declared.descriptor.DescriptorProto.{out-DescriptorProto}
 use Rattle.protobuf_parse_model.specs.Descriptors.{Text, MessageDescriptor, messages_of_list}
-use Rattle.protobuf_parse_model.specs.Descriptors.{message_parts, message_view}
+use Rattle.protobuf_parse_model.specs.Descriptors.{message_view}
+use Rattle.protobuf_parse_model.specs.MessageParts.{message_parts}
 use Rattle.protobuf_parse_model.proofs.Levels.{message_view_is}
 use Rattle.protobuf_parse_wire.specs.Declarations.{Declaration, name_within, declared_message}
 use Rattle.protobuf_parse_wire.specs.Declarations.{declared_messages}

@@ -1,14 +1,11 @@
 -- Where fields, extensions and enums stand: in a message, or in a file outside of its messages.
 use Rattle.std.specs.Prelude.{Bool, List, [], ◌∷◌, ◌++◌, map, unwrap_or}
-use Rattle.std.specs.Prelude.{bytes_eq, codes, string_bytes}
+use Rattle.std.specs.Prelude.{bytes_eq, codes}
 use Rattle.protobuf_parse_model.specs.Descriptors.{Text, FileDescriptor, FieldDescriptor}
 use Rattle.protobuf_parse_model.specs.Descriptors.{EnumDescriptor, MessageParts, Range}
-use Rattle.protobuf_parse_model.specs.Descriptors.{ServiceDescriptor, file_view, message_parts}
+use Rattle.protobuf_parse_model.specs.Descriptors.{ServiceDescriptor}
 use Rattle.protobuf_parse_wire.specs.Declarations.{Declaration, messages_declared_in}
 use Rattle.protobuf_parse_wire.specs.Declarations.{package_scope}
-use Rattle.protobuf_parse_rules.specs.declared.bodies.Body.{Body}
-use Rattle.protobuf_parse_rules.specs.declared.bodies.Holds.{Holds}
-use Rattle.protobuf_parse_rules.specs.declared.bodies.Holds.TheVariants as holds
 
 -- what stands there: what a message has, or what a file has
 pub data Content : Type 0 where
@@ -93,17 +90,3 @@ abbrev pub bodies_in : FileDescriptor → List BodyParts
 bodies_in file =
     map (message_body (file_path file) (is_proto3 file)) (messages_declared_in file)
     ++ outer_body file ∷ []
-
--- what the Rust value says
-abbrev pub content_view : Holds → Content
-content_view (holds.Message m) = of_message (message_parts m.now)
-content_view (holds.File f) = of_file (file_view f.now)
-
--- what the Rust value says
-abbrev pub body_view : Body → BodyParts
-body_view b = record {
-  file = b.file.now;
-  proto3 = b.proto3;
-  scope = string_bytes b.scope;
-  content = content_view b.holds;
-}

@@ -14,7 +14,7 @@ use Rattle.protobuf_parse_rules.specs.Alike.{squeezed}
 use Rattle.protobuf_parse_rules.specs.Claims.{Claim, Thing}
 use Rattle.protobuf_parse_rules.specs.Names.{Named, package_named}
 use Rattle.protobuf_parse_rules.specs.Bodies.{Content, BodyParts, enums_of, extensions_of, of_file}
-use Rattle.protobuf_parse_rules.specs.Bodies.{of_message}
+use Rattle.protobuf_parse_rules.specs.Bodies.{of_message, services_of}
 use Rattle.protobuf_parse_rules.specs.declared.kind.NamedKind.{NamedKind}
 use Rattle.protobuf_parse_rules.specs.declared.kind.NamedKind.TheVariants as kind
 
@@ -110,15 +110,15 @@ abbrev pub service_keys : ℕ → ServiceDescriptor → List ℕ
 service_keys k s =
     fold mixed k s.name ∷ method_keys (mixed (fold mixed k s.name) char.dot) s.method
 
--- of a message, whose key is `itself`, its fields and its oneofs; or of a file's services
+-- of a message, whose key is `itself`, its fields and its oneofs; a file has none of its own
 abbrev pub own_keys : (itself k : ℕ) → Content → List ℕ
 own_keys itself k (of_message m) = itself ∷ (field_keys k m.field ++ oneof_keys k m.oneof_decl)
-own_keys itself k (of_file f) = flat_map (service_keys k) f.service
+own_keys itself k (of_file f) = []
 
-abbrev pub both_keys : ℕ → Content → List ℕ
-both_keys k content = flat_map (enum_keys k) (enums_of content)
-    ++ field_keys k (extensions_of content)
+abbrev pub inner_keys : ℕ → Content → List ℕ
+inner_keys k content = flat_map (enum_keys k) (enums_of content)
+    ++ (flat_map (service_keys k) (services_of content) ++ field_keys k (extensions_of content))
 
 abbrev pub other_keys : BodyParts → List ℕ
 other_keys p = own_keys (text_key p.scope) (inside p.scope) p.content
-    ++ both_keys (inside p.scope) p.content
+    ++ inner_keys (inside p.scope) p.content

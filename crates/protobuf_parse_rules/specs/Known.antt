@@ -6,21 +6,22 @@ use Rattle.std.specs.Ordering.{nat_cmp, ordering_then}
 use Rattle.std.specs.declared.cmp.Ordering.{Ordering}
 use Rattle.std.specs.Borrow.{Bor}
 use Rattle.std.specs.BTreeMap.{BTreeMap, get}
+use Rattle.protobuf_parse_model.specs.ByHash.{hash_of}
 use Rattle.protobuf_parse_model.specs.Descriptors.{Text, enum_view}
-use Rattle.protobuf_parse_rules.specs.Keys.{text_key}
 use Rattle.protobuf_parse_rules.specs.Lookups.{NamedEnum, NamedMessage, enums_at, message_at}
-use Rattle.protobuf_parse_rules.specs.Bodies.{BodyParts, content_view}
+use Rattle.protobuf_parse_rules.specs.Bodies.{BodyParts}
+use Rattle.protobuf_parse_rules.specs.BodyViews.{content_view}
 use Rattle.protobuf_parse_rules.specs.declared.known.KnownEnum.{KnownEnum}
 use Rattle.protobuf_parse_rules.specs.declared.known.KnownMessage.{KnownMessage}
 use Rattle.protobuf_parse_rules.specs.declared.tables.OwnedEnum.{OwnedEnum}
 use Rattle.protobuf_parse_rules.specs.declared.tables.Types.{Types}
 
--- a text behind its key
+-- a text behind its hash
 abbrev pub Keyed : Type 0
 Keyed = ℕ × Bor (List ℕ)
 
 abbrev pub keyed : Bor (List ℕ) → Keyed
-keyed t = (text_key t.now, t)
+keyed t = (hash_of t.now, t)
 
 abbrev pub keyed_cmp : Keyed → Keyed → Ordering
 keyed_cmp a b = ordering_then (nat_cmp a.0 b.0) (slice_cmp nat_cmp a.1.now b.1.now)

@@ -45,3 +45,4 @@ pub mod Violations
 pub mod Law
 pub mod Wanted
 pub mod ClaimsKept
+pub mod BodyViews

@@ -11,7 +11,7 @@ use Rattle.protobuf_parse_model.specs.Descriptors.{OneofDescriptor, ServiceDescr
 use Rattle.protobuf_parse_wire.specs.Declarations.{name_within}
 use Rattle.protobuf_parse_rules.specs.Claims.{Claim, Rules, conflicts}
 use Rattle.protobuf_parse_rules.specs.Bodies.{Content, BodyParts, enums_of, extensions_of, of_file}
-use Rattle.protobuf_parse_rules.specs.Bodies.{of_message}
+use Rattle.protobuf_parse_rules.specs.Bodies.{of_message, services_of}
 use Rattle.protobuf_parse_rules.specs.Rules.{Breach, Broken, broken_by}
 use Rattle.protobuf_parse_rules.specs.declared.kind.NamedKind.{NamedKind}
 use Rattle.protobuf_parse_rules.specs.declared.kind.NamedKind.TheVariants as kind
@@ -70,23 +70,23 @@ abbrev pub package_named : (file : Text) → Option Text → List Named
 package_named file None = []
 package_named file (Some name) = packages_named file [] (dotted_parts name)
 
--- a message, its fields and its oneofs; or a file's package and its services
+-- a message, its fields and its oneofs; or a file's package
 abbrev pub own_named : (file scope : Text) → Content → List Named
 own_named file scope (of_message m) =
     record { file = file; kind = kind.Message; name = scope }
     ∷ (fields_named file scope kind.Field m.field ++ oneofs_named file scope m.oneof_decl)
-own_named file scope (of_file f) =
-    package_named file f.«package» ++ flat_map (service_named file scope) f.service
+own_named file scope (of_file f) = package_named file f.«package»
 
--- what stands in both: enums and extensions
-abbrev pub both_named : (file scope : Text) → Content → List Named
-both_named file scope content =
+-- what stands in it: enums, services and extensions
+abbrev pub inner_named : (file scope : Text) → Content → List Named
+inner_named file scope content =
     flat_map (enum_named file scope) (enums_of content)
-    ++ fields_named file scope kind.Extension (extensions_of content)
+    ++ (flat_map (service_named file scope) (services_of content)
+    ++ fields_named file scope kind.Extension (extensions_of content))
 
 -- all that a body declares
 abbrev pub names_at : BodyParts → List Named
-names_at p = own_named p.file p.scope p.content ++ both_named p.file p.scope p.content
+names_at p = own_named p.file p.scope p.content ++ inner_named p.file p.scope p.content
 
 -- what it claims: its full name
 abbrev pub name_claim : Named → Claim

@@ -13,7 +13,8 @@ ghost use Rattle.protobuf_parse_rules.specs.ClaimsKept.{Claims};
 ghost use Rattle.protobuf_parse_rules.specs.Held.{rules_of};
 ghost use Rattle.protobuf_parse_rules.specs.Keys.{spelling_keys, text_key};
 ghost use Rattle.protobuf_parse_rules.specs.KnownNames.{spelled_view};
-ghost use Rattle.protobuf_parse_rules.specs.Bodies.{body_view, content_view, fields_of};
+ghost use Rattle.protobuf_parse_rules.specs.Bodies.{fields_of};
+ghost use Rattle.protobuf_parse_rules.specs.BodyViews.{body_view, content_view};
 ghost use Rattle.protobuf_parse_rules.specs.Rules.{breaches_told};
 
 use crate::bodies::Body;

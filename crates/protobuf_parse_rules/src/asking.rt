@@ -7,7 +7,8 @@ ghost use Rattle.std.specs.List.{list_any};
 ghost use Rattle.protobuf_parse_model.specs.Descriptors.{field_view};
 ghost use Rattle.protobuf_parse_rules.specs.Asking as spec;
 ghost use Rattle.protobuf_parse_rules.specs.Customs.{are_any};
-ghost use Rattle.protobuf_parse_rules.specs.Bodies.{body_view, content_view, imports_of};
+ghost use Rattle.protobuf_parse_rules.specs.Bodies.{imports_of};
+ghost use Rattle.protobuf_parse_rules.specs.BodyViews.{body_view, content_view};
 ghost use Rattle.protobuf_parse_rules.specs.Bodies.{services_of};
 
 use crate::bodies::{Body, Holds};

@@ -3,7 +3,8 @@
 ghost use Rattle.std.specs.Prelude.{◌≡◌, IfOk};
 ghost use Rattle.std.proofs.Props.{props};
 ghost use Rattle.protobuf_parse_rules.specs.Covers.{AreEnds};
-ghost use Rattle.protobuf_parse_rules.specs.Bodies.{body_view, content_view, extension_ranges};
+ghost use Rattle.protobuf_parse_rules.specs.Bodies.{extension_ranges};
+ghost use Rattle.protobuf_parse_rules.specs.BodyViews.{body_view, content_view};
 ghost use Rattle.protobuf_parse_rules.specs.Bodies.{reserved_names, reserved_ranges};
 ghost use Rattle.protobuf_parse_rules.specs.Ranges.{in_range, in_ranges};
 ghost use Rattle.protobuf_parse_rules.specs.Sets.{AreTexts};

@@ -3,13 +3,15 @@
 ghost use Rattle.std.specs.Prelude.{◌≡◌, ◌++◌, [], ◌∷◌, map, OnOk, IfOk, string_bytes, None};
 ghost use Rattle.std.specs.List.{flat_map};
 ghost use Rattle.protobuf_parse_model.specs.Descriptors.{enum_view, field_view, file_view};
-ghost use Rattle.protobuf_parse_model.specs.Descriptors.{extension_range_view, message_parts};
+ghost use Rattle.protobuf_parse_model.specs.Descriptors.{extension_range_view};
+ghost use Rattle.protobuf_parse_model.specs.MessageParts.{message_parts};
 ghost use Rattle.protobuf_parse_model.specs.Descriptors.{message_view};
 ghost use Rattle.protobuf_parse_model.specs.Descriptors.{reserved_range_view, service_view};
 ghost use Rattle.protobuf_parse_wire.specs.Declarations.{declared_message, name_within};
 ghost use Rattle.protobuf_parse_rules.specs.ClaimsKept.{holder_view};
 ghost use Rattle.protobuf_parse_rules.specs.Findings.{site_of};
-ghost use Rattle.protobuf_parse_rules.specs.Bodies.{body_view, content_view, enums_of};
+ghost use Rattle.protobuf_parse_rules.specs.Bodies.{enums_of};
+ghost use Rattle.protobuf_parse_rules.specs.BodyViews.{body_view, content_view};
 ghost use Rattle.protobuf_parse_rules.specs.Bodies.{extension_ranges, extensions_of};
 ghost use Rattle.protobuf_parse_rules.specs.Bodies.{fields_of, file_path};
 ghost use Rattle.protobuf_parse_rules.specs.Bodies.{imports_of, is_proto3, message_body, bodies_in};

@@ -3,10 +3,11 @@
 ghost use Rattle.std.specs.Prelude.{◌≡◌, map};
 ghost use Rattle.std.specs.List.{list_any};
 ghost use Rattle.protobuf_parse_model.specs.Descriptors.{enum_value_view, enum_view, field_view};
-ghost use Rattle.protobuf_parse_model.specs.Descriptors.{file_view, message_parts, method_view};
+ghost use Rattle.protobuf_parse_model.specs.Descriptors.{file_view, method_view};
+ghost use Rattle.protobuf_parse_model.specs.MessageParts.{message_parts};
 ghost use Rattle.protobuf_parse_model.specs.Descriptors.{oneof_view, service_view};
 ghost use Rattle.protobuf_parse_rules.specs.Customs as spec;
-ghost use Rattle.protobuf_parse_rules.specs.Bodies.{content_view};
+ghost use Rattle.protobuf_parse_rules.specs.BodyViews.{content_view};
 
 use crate::bodies::Holds;
 use protobuf_parse_model::{

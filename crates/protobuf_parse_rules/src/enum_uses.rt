@@ -8,7 +8,8 @@ ghost use Rattle.protobuf_parse_rules.specs.Findings.{finding_view};
 ghost use Rattle.protobuf_parse_rules.specs.Known.{known_enum};
 ghost use Rattle.protobuf_parse_rules.specs.KnownTables.{Knows};
 ghost use Rattle.protobuf_parse_rules.specs.declared.known.KnownEnum.{KnownEnum};
-ghost use Rattle.protobuf_parse_rules.specs.Bodies.{BodyParts, content_view};
+ghost use Rattle.protobuf_parse_rules.specs.Bodies.{BodyParts};
+ghost use Rattle.protobuf_parse_rules.specs.BodyViews.{content_view};
 
 use crate::bodies::Holds;
 use crate::enums::not_zero;

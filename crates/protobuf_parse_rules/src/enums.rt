@@ -11,7 +11,7 @@ ghost use Rattle.protobuf_parse_rules.specs.Enums.{not_zero};
 ghost use Rattle.protobuf_parse_rules.specs.Enums.{value_claim, value_rule, values_in_use};
 ghost use Rattle.protobuf_parse_rules.specs.Findings.{finding_view, site_of};
 ghost use Rattle.protobuf_parse_rules.specs.Keys.{no_text, numbered};
-ghost use Rattle.protobuf_parse_rules.specs.Bodies.{body_view};
+ghost use Rattle.protobuf_parse_rules.specs.BodyViews.{body_view};
 ghost use Rattle.protobuf_parse_wire.specs.Declarations.{name_within};
 ghost use Rattle.protobuf_parse_rules.specs.Enums as spec;
 ghost use Rattle.protobuf_parse_rules.specs.Repeats.{repeats};

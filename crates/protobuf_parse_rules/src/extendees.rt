@@ -2,7 +2,8 @@
 
 ghost use Rattle.std.specs.Prelude.{◌≡◌, ◌++◌, List, flat_map, map, OnOk};
 ghost use Rattle.protobuf_parse_model.specs.Descriptors.{field_view};
-ghost use Rattle.protobuf_parse_rules.specs.Bodies.{BodyParts, body_view};
+ghost use Rattle.protobuf_parse_rules.specs.Bodies.{BodyParts};
+ghost use Rattle.protobuf_parse_rules.specs.BodyViews.{body_view};
 ghost use Rattle.protobuf_parse_rules.specs.Known.{Finds};
 ghost use Rattle.protobuf_parse_rules.specs.KnownFiles.{known_file, path_named};
 ghost use Rattle.protobuf_parse_rules.specs.Runtimes.{file_at};

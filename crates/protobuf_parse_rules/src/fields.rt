@@ -3,7 +3,8 @@
 ghost use Rattle.std.specs.Prelude.{◌≡◌, ◌++◌, List, map, flat_map, OnOk};
 ghost use Rattle.protobuf_parse_model.specs.Descriptors.{field_view};
 ghost use Rattle.protobuf_parse_rules.specs.KnownTables.{Knows};
-ghost use Rattle.protobuf_parse_rules.specs.Bodies.{BodyParts, body_view, content_view};
+ghost use Rattle.protobuf_parse_rules.specs.Bodies.{BodyParts};
+ghost use Rattle.protobuf_parse_rules.specs.BodyViews.{body_view, content_view};
 ghost use Rattle.protobuf_parse_rules.specs.Rules.{breaches_at, breaches_told};
 ghost use Rattle.protobuf_parse_rules.specs.Violations.{common_rules, extension_breaches};
 ghost use Rattle.protobuf_parse_rules.specs.Violations.{extension_rules, field_breaches};

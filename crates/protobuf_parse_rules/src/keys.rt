@@ -8,6 +8,8 @@ ghost use Rattle.protobuf_parse_rules.specs.Alike.{squeezed};
 ghost use Rattle.protobuf_parse_rules.specs.Keys as spec;
 ghost use Rattle.protobuf_parse_rules.specs.Known.{keyed};
 
+use protobuf_parse_model::hash_of;
+
 /// The key of a number behind a text, by that of the text.
 pub fn numbered(key: u64, number: &i32) -> u64
     ensures { result ≡ spec.numbered key number.now }
@@ -43,11 +45,11 @@ fn bytes_key(front: u64, bytes: &[u8]) -> u64
     key
 }
 
-/// The text behind its key: so texts are told apart by numbers, for the most part.
+/// The text behind its hash: so texts are told apart by numbers, for the most part.
 pub fn keyed(text: &str) -> (u64, &str)
     ensures { result ≡ keyed text.entry }
 {
-    (text_key(NO_TEXT, text), text)
+    (hash_of(text), text)
 }
 
 /// The key of a text with this name behind it, by that of the text; the name in lower case and

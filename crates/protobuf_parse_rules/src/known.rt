@@ -6,7 +6,7 @@ ghost use Rattle.protobuf_parse_model.specs.Descriptors.{EnumValueDescriptor, en
 ghost use Rattle.protobuf_parse_model.specs.Descriptors.{enum_view};
 ghost use Rattle.protobuf_parse_rules.specs.Covers.{AreEnds};
 ghost use Rattle.protobuf_parse_rules.specs.EnumUses.{value_names};
-ghost use Rattle.protobuf_parse_rules.specs.Bodies.{content_view};
+ghost use Rattle.protobuf_parse_rules.specs.BodyViews.{content_view};
 ghost use Rattle.protobuf_parse_rules.specs.Ranges.{in_range, in_ranges, ranges_for_extensions};
 ghost use Rattle.protobuf_parse_rules.specs.Sets.{AreTexts};
 

@@ -3,7 +3,7 @@
 ghost use Rattle.std.specs.Prelude.{◌≡◌, option_map};
 ghost use Rattle.protobuf_parse_rules.specs.Findings.{finding_view};
 ghost use Rattle.protobuf_parse_rules.specs.MessageSets as spec;
-ghost use Rattle.protobuf_parse_rules.specs.Bodies.{content_view};
+ghost use Rattle.protobuf_parse_rules.specs.BodyViews.{content_view};
 
 use crate::bodies::Holds;
 use crate::finding::{Finding, found_if};

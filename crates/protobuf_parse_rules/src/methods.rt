@@ -2,7 +2,8 @@
 
 ghost use Rattle.std.specs.Prelude.{◌≡◌, ◌++◌, List, flat_map, map, OnOk, option_map};
 ghost use Rattle.protobuf_parse_model.specs.Descriptors.{method_view, service_view};
-ghost use Rattle.protobuf_parse_rules.specs.Bodies.{BodyParts, body_view};
+ghost use Rattle.protobuf_parse_rules.specs.Bodies.{BodyParts};
+ghost use Rattle.protobuf_parse_rules.specs.BodyViews.{body_view};
 ghost use Rattle.protobuf_parse_rules.specs.Findings.{finding_view};
 ghost use Rattle.protobuf_parse_rules.specs.KnownTables.{Knows};
 ghost use Rattle.protobuf_parse_rules.specs.Methods as spec;

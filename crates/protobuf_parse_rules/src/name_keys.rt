@@ -7,7 +7,7 @@ ghost use Rattle.protobuf_parse_model.specs.Descriptors.{method_view, oneof_view
 ghost use Rattle.protobuf_parse_rules.specs.Keys as spec;
 ghost use Rattle.protobuf_parse_rules.specs.Keys.{inside, name_key, packages_at};
 ghost use Rattle.protobuf_parse_rules.specs.KnownNames.{named_view};
-ghost use Rattle.protobuf_parse_rules.specs.Bodies.{body_view, content_view};
+ghost use Rattle.protobuf_parse_rules.specs.BodyViews.{body_view, content_view};
 ghost use Rattle.protobuf_parse_rules.specs.Wanted.{AreLone};
 
 use crate::bodies::{Body, Holds};
@@ -83,10 +83,10 @@ pub fn add_keys(keys: &mut Vec<u64>, body: &Body<'_>) -> Result<(), AllocError>
     let itself = text_key(NO_TEXT, &body.scope);
     let inside = text_key(itself, ".");
     add_own(keys, itself, inside, body.holds)?;
-    add_both(keys, inside, body.holds)
+    add_inner(keys, inside, body.holds)
 }
 
-/// A message, its fields and its oneofs; or a file's services.
+/// A message, its fields and its oneofs; a file has none of its own.
 fn add_own(
     keys: &mut Vec<u64>,
     itself: u64,
@@ -102,16 +102,17 @@ fn add_own(
             add_fields(keys, inside, &message.field)?;
             add_oneofs(keys, inside, &message.oneof_decl)
         }
-        Holds::File(file) => add_services(keys, inside, &file.service),
+        Holds::File(_) => Ok(()),
     }
 }
 
-/// What stands in both: enums and extensions.
-fn add_both(keys: &mut Vec<u64>, inside: u64, holds: Holds<'_>) -> Result<(), AllocError>
+/// What stands in it: enums, services and extensions.
+fn add_inner(keys: &mut Vec<u64>, inside: u64, holds: Holds<'_>) -> Result<(), AllocError>
     ensures { OnOk result (keys.new.items
-        ≡ keys.old.items ++ spec.both_keys inside (content_view holds.entry)) }
+        ≡ keys.old.items ++ spec.inner_keys inside (content_view holds.entry)) }
 {
     add_enums(keys, inside, holds.enums())?;
+    add_services(keys, inside, holds.services())?;
     add_fields(keys, inside, holds.extensions())
 }
 

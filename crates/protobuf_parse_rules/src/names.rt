@@ -12,7 +12,7 @@ ghost use Rattle.protobuf_parse_rules.specs.KnownNames.{named_view};
 ghost use Rattle.protobuf_parse_rules.specs.Names as spec;
 ghost use Rattle.protobuf_parse_rules.specs.Names.{name_claim, name_rule, names_at};
 ghost use Rattle.protobuf_parse_rules.specs.Names.{named_in};
-ghost use Rattle.protobuf_parse_rules.specs.Bodies.{body_view, content_view};
+ghost use Rattle.protobuf_parse_rules.specs.BodyViews.{body_view, content_view};
 ghost use Rattle.protobuf_parse_rules.specs.Rules.{breaches_told};
 ghost use Rattle.protobuf_parse_rules.specs.declared.kind.NamedKind.TheVariants as kind;
 
@@ -87,10 +87,10 @@ pub fn add_names<'a>(
         ++ names_at (body_view body.now)) }
 {
     add_own(alloc, names, body.file, &body.scope, body.holds)?;
-    add_both(alloc, names, body.file, &body.scope, body.holds)
+    add_inner(alloc, names, body.file, &body.scope, body.holds)
 }
 
-/// A message, its fields and its oneofs; or a file's package and its services.
+/// A message, its fields and its oneofs; or a file's package.
 fn add_own<'a>(
     alloc: Global,
     names: &mut Vec<Named<'a>>,
@@ -107,15 +107,12 @@ fn add_own<'a>(
             add_fields(alloc, names, file, scope, NamedKind::Field, &message.field)?;
             add_oneofs(alloc, names, file, scope, &message.oneof_decl)
         }
-        Holds::File(each) => {
-            add_package(alloc, names, file, &each.package)?;
-            add_services(alloc, names, file, scope, &each.service)
-        }
+        Holds::File(each) => add_package(alloc, names, file, &each.package),
     }
 }
 
-/// What stands in both: enums and extensions.
-fn add_both<'a>(
+/// What stands in it: enums, services and extensions.
+fn add_inner<'a>(
     alloc: Global,
     names: &mut Vec<Named<'a>>,
     file: &'a str,
@@ -123,9 +120,10 @@ fn add_both<'a>(
     holds: Holds<'_>,
 ) -> Result<(), AllocError>
     ensures { OnOk result (map named_view names.new.items ≡ map named_view names.old.items
-        ++ spec.both_named file.now scope.now (content_view holds.entry)) }
+        ++ spec.inner_named file.now scope.now (content_view holds.entry)) }
 {
     add_enums(alloc, names, file, scope, holds.enums())?;
+    add_services(alloc, names, file, scope, holds.services())?;
     add_fields(
         alloc,
         names,

@@ -2,7 +2,7 @@
 
 ghost use Rattle.std.specs.Prelude.{◌≡◌, ◌++◌, [], ◌∷◌, Some, flat_map, map, OnOk};
 ghost use Rattle.protobuf_parse_model.specs.Descriptors.{message_view};
-ghost use Rattle.protobuf_parse_rules.specs.Bodies.{body_view};
+ghost use Rattle.protobuf_parse_rules.specs.BodyViews.{body_view};
 ghost use Rattle.protobuf_parse_rules.specs.Nesting.{deep_messages, too_deep};
 ghost use Rattle.protobuf_parse_rules.specs.Rules.{breaches_at, breaches_told, broken};
 ghost use Rattle.protobuf_parse_rules.specs.declared.rule.Rule.TheVariants as rule;

@@ -6,7 +6,7 @@ ghost use Rattle.std.specs.List.{list_any};
 ghost use Rattle.protobuf_parse_model.specs.Descriptors.{field_view};
 ghost use Rattle.protobuf_parse_rules.specs.Ascending as ascending;
 ghost use Rattle.protobuf_parse_rules.specs.Ascending.{ascend_from, is_mixed, message_scopes};
-ghost use Rattle.protobuf_parse_rules.specs.Bodies.{body_view};
+ghost use Rattle.protobuf_parse_rules.specs.BodyViews.{body_view};
 ghost use Rattle.protobuf_parse_rules.specs.ClaimsKept.{AreEnough};
 ghost use Rattle.protobuf_parse_rules.specs.Keys.{claim_key, extension_keys, field_key};
 ghost use Rattle.protobuf_parse_rules.specs.Keys.{text_key};

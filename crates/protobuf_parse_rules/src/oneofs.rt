@@ -6,7 +6,7 @@ ghost use Rattle.protobuf_parse_model.specs.Descriptors.{field_view, oneof_view}
 ghost use Rattle.protobuf_parse_rules.specs.Marks.{Marks};
 ghost use Rattle.protobuf_parse_rules.specs.Oneofs as spec;
 ghost use Rattle.protobuf_parse_rules.specs.Oneofs.{empty_oneofs, oneofs_held};
-ghost use Rattle.protobuf_parse_rules.specs.Bodies.{body_view};
+ghost use Rattle.protobuf_parse_rules.specs.BodyViews.{body_view};
 ghost use Rattle.protobuf_parse_rules.specs.Positions.{by_position};
 ghost use Rattle.protobuf_parse_rules.specs.Rules.{breaches_at, breaches_told};
 ghost use Rattle.protobuf_parse_rules.specs.Violations.{site_in};

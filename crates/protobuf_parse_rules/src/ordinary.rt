@@ -5,7 +5,7 @@ ghost use Rattle.std.specs.Prelude.{◌≡◌, false, is_none};
 ghost use Rattle.protobuf_parse_model.specs.Descriptors.{field_view};
 ghost use Rattle.protobuf_parse_rules.specs.Limits.{limit};
 ghost use Rattle.protobuf_parse_rules.specs.Ordinary as spec;
-ghost use Rattle.protobuf_parse_rules.specs.Bodies.{content_view};
+ghost use Rattle.protobuf_parse_rules.specs.BodyViews.{content_view};
 
 use crate::bars::Bars;
 use crate::bodies::Holds;

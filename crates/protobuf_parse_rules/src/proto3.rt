@@ -2,7 +2,7 @@
 
 ghost use Rattle.std.specs.Prelude.{◌≡◌, ◌&&◌, is_some, map, option_map, string_bytes};
 ghost use Rattle.protobuf_parse_rules.specs.Findings.{finding_view};
-ghost use Rattle.protobuf_parse_rules.specs.Bodies.{content_view};
+ghost use Rattle.protobuf_parse_rules.specs.BodyViews.{content_view};
 ghost use Rattle.protobuf_parse_rules.specs.Proto3 as spec;
 
 use crate::bodies::Holds;

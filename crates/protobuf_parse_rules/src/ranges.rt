@@ -7,7 +7,7 @@ ghost use Rattle.protobuf_parse_model.specs.Descriptors.{reserved_range_view};
 ghost use Rattle.protobuf_parse_rules.specs.Covers.{AreEnds};
 ghost use Rattle.protobuf_parse_rules.specs.Findings.{finding_view, site_of};
 ghost use Rattle.protobuf_parse_rules.specs.MessageSets.{is_message_set};
-ghost use Rattle.protobuf_parse_rules.specs.Bodies.{body_view, content_view};
+ghost use Rattle.protobuf_parse_rules.specs.BodyViews.{body_view, content_view};
 ghost use Rattle.protobuf_parse_rules.specs.Ranges as spec;
 ghost use Rattle.protobuf_parse_rules.specs.Rules.{breaches_told};
 ghost use Rattle.protobuf_parse_rules.specs.Violations.{site_of_body};

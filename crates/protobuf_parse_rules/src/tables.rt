@@ -9,7 +9,8 @@ ghost use Rattle.protobuf_parse_rules.specs.Known.{known_message, message_name, 
 ghost use Rattle.protobuf_parse_rules.specs.KnownTables.{Knows};
 ghost use Rattle.protobuf_parse_rules.specs.Lookups.{NamedEnum, NamedMessage, enum_named};
 ghost use Rattle.protobuf_parse_rules.specs.Lookups.{enums_at, enum_of, message_at, message_named};
-ghost use Rattle.protobuf_parse_rules.specs.Bodies.{BodyParts, body_view, content_view};
+ghost use Rattle.protobuf_parse_rules.specs.Bodies.{BodyParts};
+ghost use Rattle.protobuf_parse_rules.specs.BodyViews.{body_view, content_view};
 ghost use Rattle.protobuf_parse_rules.specs.declared.known.KnownEnum.{KnownEnum};
 ghost use Rattle.protobuf_parse_rules.specs.declared.known.KnownMessage.{KnownMessage};
 

@@ -7,7 +7,8 @@ ghost use Rattle.protobuf_parse_rules.specs.Imports.{extending_path, setting_pat
 ghost use Rattle.protobuf_parse_rules.specs.Known.{KnowsTypes};
 ghost use Rattle.protobuf_parse_rules.specs.KnownFiles.{known_file};
 ghost use Rattle.protobuf_parse_rules.specs.KnownUses.{KnowsUses};
-ghost use Rattle.protobuf_parse_rules.specs.Bodies.{BodyParts, body_view, content_view};
+ghost use Rattle.protobuf_parse_rules.specs.Bodies.{BodyParts};
+ghost use Rattle.protobuf_parse_rules.specs.BodyViews.{body_view, content_view};
 ghost use Rattle.protobuf_parse_rules.specs.Bodies.{extensions_of};
 ghost use Rattle.protobuf_parse_rules.specs.Runtimes.{file_named};
 ghost use Rattle.protobuf_parse_rules.specs.Sets.{AreTexts, texts_of};

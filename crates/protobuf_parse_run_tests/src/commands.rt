@@ -75,6 +75,121 @@ fn writes_sets(rt: HostRuntime) -> Result<(), Fail> {
     Ok(())
 }
 
+const WITH_COMMENT: &[u8] = b"syntax = \"proto3\";\n\n// c\nmessage M {}\n";
+
+/// The field with the source info of that text, as `protoc` 3.21.12 writes it.
+const INFO_FIELD: &[u8] = b"\x4a\x2e\x0a\x06\x12\x04\x00\x00\x03\x0c\
+\x0a\x08\x0a\x01\x0c\x12\x03\x00\x00\x12\
+\x0a\x0e\x0a\x02\x04\x00\x12\x03\x03\x00\x0c\x1a\x03 c\x0a\
+\x0a\x0a\x0a\x03\x04\x00\x01\x12\x03\x03\x08\x09";
+
+#[test]
+fn writes_source_info(rt: HostRuntime) -> Result<(), Fail> {
+    let path = own_path(&rt, "commented.proto")?;
+    let set = own_path(&rt, "info.pb")?;
+    fs::write(&rt, path.as_str(), WITH_COMMENT)?;
+    expect(&rt, &run(&rt, &["-o", &set, &path])?, 0, "", "");
+    let without = fs::read(&rt, set.as_str())?;
+    expect(
+        &rt,
+        &run(&rt, &["--include_source_info", "-o", &set, &path])?,
+        0,
+        "",
+        "",
+    );
+    let with_info = fs::read(&rt, set.as_str())?;
+    assert!(rt;
+        with_info
+            .windows(INFO_FIELD.len())
+            .any(|bytes| bytes == INFO_FIELD)
+    );
+    assert_eq!(rt; with_info.len(), without.len() + INFO_FIELD.len());
+
+    // Where a fault is told nothing is written.
+    fs::write(
+        &rt,
+        path.as_str(),
+        b"syntax = 'proto3'; message M { N n = 1; }",
+    )?;
+    let line = format!(in rt.alloc(); "{path}:1:32: error: \"N\" is not defined [E3]\n")?;
+    expect(
+        &rt,
+        &run(&rt, &["--include_source_info", "-o", &set, &path])?,
+        1,
+        "",
+        &line,
+    );
+    assert_eq!(rt;
+        fs::read(&rt, set.as_str())?.as_slice(),
+        with_info.as_slice()
+    );
+    for path in [&path, &set] {
+        fs::remove_file(&rt, path.as_str())?;
+    }
+    Ok(())
+}
+
+#[test]
+fn reads_sets(rt: HostRuntime) -> Result<(), Fail> {
+    let apple = own_path(&rt, "kept_apple.proto")?;
+    let banana = own_path(&rt, "kept_banana.proto")?;
+    let set = own_path(&rt, "kept.pb")?;
+    let again = own_path(&rt, "kept_again.pb")?;
+    fs::write(
+        &rt,
+        apple.as_str(),
+        b"syntax = 'proto3'; package p; message Apple { repeated float a_b = 1; }",
+    )?;
+    expect(&rt, &run(&rt, &["-o", &set, &apple])?, 0, "", "");
+    fs::remove_file(&rt, apple.as_str())?;
+
+    // The set has the file, which is nowhere else.
+    let sets = format!(in rt.alloc(); "--descriptor_set_in={set}")?;
+    expect(&rt, &run(&rt, &[&sets, "-o", &again, &apple])?, 0, "", "");
+    let bytes = fs::read(&rt, set.as_str())?;
+    assert_eq!(rt; fs::read(&rt, again.as_str())?.as_slice(), bytes.as_slice());
+    expect(&rt, &run(&rt, &[&sets, "--text", &apple])?, 0, APPLE, "");
+
+    // A text imports it.
+    let text = format!(in rt.alloc();
+        "syntax = 'proto2'; import '{apple}'; message B {{ optional p.Apple a = 1; }}"
+    )?;
+    fs::write(&rt, banana.as_str(), text.as_bytes())?;
+    expect(&rt, &run(&rt, &[&sets, "-I", "", &banana])?, 0, "", "");
+    let missing = format!(in rt.alloc();
+        "{banana}:1:20: error: the imported file \"{apple}\" is not found; it was looked for in \
+         [\"\"] [L2]\n"
+    )?;
+    expect(&rt, &run(&rt, &[&banana])?, 1, "", &missing);
+
+    // What is no set is told, and what isn't there.
+    fs::write(&rt, set.as_str(), b"\x0a\x05a")?;
+    let told = format!(in rt.alloc();
+        "{set}: error: this is no descriptor set: byte 2: the bytes end inside a record [L14]\n"
+    )?;
+    expect(&rt, &run(&rt, &[&sets, &apple])?, 1, "", &told);
+    fs::remove_file(&rt, set.as_str())?;
+    let told = format!(in rt.alloc();
+        "{set}: error: could not read the descriptor set: No such file or directory (os error 2) \
+         [L13]\n"
+    )?;
+    expect(&rt, &run(&rt, &[&sets, &apple])?, 1, "", &told);
+    for path in [&banana, &again] {
+        fs::remove_file(&rt, path.as_str())?;
+    }
+    Ok(())
+}
+
+/// The text of the file that the set has.
+const APPLE: &str = r#"syntax = "proto3";
+
+package p;
+
+message Apple {
+  repeated float a_b = 1;
+}
+"#;
+
 #[test]
 fn tells_where_no_set_can_be(rt: HostRuntime) -> Result<(), Fail> {
     let path = own_path(&rt, "unset.proto")?;
@@ -127,6 +242,55 @@ fn tells_of_wrong_words(rt: HostRuntime) -> Result<(), Fail> {
     let front = "Parses .proto files, checks their types, and writes their descriptors.\n\n\
         Usage: protobuf_parse_cli [OPTIONS] <FILE>...\n";
     assert!(rt; outcome.out.as_slice().starts_with(front.as_bytes()));
+    Ok(())
+}
+
+#[test]
+fn shows_lines_at_a_terminal(rt: HostRuntime) -> Result<(), Fail> {
+    let path = own_path(&rt, "shown.proto")?;
+    // Tabs stay, a wide character takes two columns, and what a terminal obeys is replaced.
+    let text = "syntax = 'proto3';\nmessage M {\n\t/* 漢\u{1b} */\tOder a = 1;\r\n}\n";
+    fs::write(&rt, path.as_str(), text.as_bytes())?;
+    let outcome = run(&rt, &["--color=always", &path])?;
+    fs::remove_file(&rt, path.as_str())?;
+    let front = format!(in rt.alloc();
+        "\u{1b}[1m{path}:3:11: \u{1b}[0m\u{1b}[1;31merror: \u{1b}[0m\"Oder\" is not defined [E3]\n"
+    )?;
+    let back = " 3 | \t/* 漢\u{fffd} */\tOder a = 1;\n   | \t         \t\u{1b}[1;32m^\u{1b}[0m\n";
+    expect(
+        &rt,
+        &outcome,
+        1,
+        "",
+        &format!(in rt.alloc(); "{front}{back}")?,
+    );
+    Ok(())
+}
+
+#[test]
+fn reads_words_of_files(rt: HostRuntime) -> Result<(), Fail> {
+    let path = own_path(&rt, "words.proto")?;
+    let words = own_path(&rt, "words.txt")?;
+    let named = format!(in rt.alloc(); "@{words}")?;
+    fs::write(
+        &rt,
+        path.as_str(),
+        b"syntax = 'proto3';\nimport 'no such.proto';\n",
+    )?;
+    // Blanks stand as they are, lines may end in a carriage return, and the last one needs no end.
+    let text = format!(in rt.alloc(); "-I\r\n.\n\n{path}\n-Ino such.proto={path}")?;
+    fs::write(&rt, words.as_str(), text.as_bytes())?;
+    let line = format!(in rt.alloc(); "{path}: no such.proto\n")?;
+    expect(&rt, &run(&rt, &["--imports", &named])?, 0, &line, "");
+
+    fs::write(&rt, words.as_str(), b"--list\n\xff\n")?;
+    let line = format!(in rt.alloc();
+        "protobuf_parse_cli: error: could not read the arguments in `{words}`: it is not UTF-8\n"
+    )?;
+    expect(&rt, &run(&rt, &[&named, &path])?, 2, "", &line);
+    for path in [&path, &words] {
+        fs::remove_file(&rt, path.as_str())?;
+    }
     Ok(())
 }
 

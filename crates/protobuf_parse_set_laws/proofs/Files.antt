@@ -1,6 +1,6 @@
 -- Files and sets that were written.
 use Rattle.std.proofs.Common.{◌≡◌, ℕ, zero, suc, ◌<◌, ◌^◌, Bool, true, false, List, [], ◌∷◌, ◌++◌}
-use Rattle.std.proofs.Common.{length, map, Option, Some, None, Ok, refl, sym, ap, ◌∙◌}
+use Rattle.std.proofs.Common.{flat_map, length, map, Option, Some, None, Ok, refl, sym, ap, ◌∙◌}
 use Rattle.std.proofs.Common.{subst}
 use Rattle.std.specs.Prelude.{IfSome, bytes_eq, codes, if◌then◌else◌}
 use Rattle.std.specs.List.{AllByRecursion}
@@ -10,9 +10,12 @@ use Rattle.protobuf_parse_model.specs.Descriptors.{MessageDescriptor, MessageDes
 use Rattle.protobuf_parse_model.specs.Descriptors.{messages, messages_list, no_messages}
 use Rattle.protobuf_parse_records.specs.Views.{WireRecord}
 use Rattle.protobuf_parse_records.specs.Wire.{◌>>=◌}
-use Rattle.protobuf_parse_descriptor_set.specs.Items.{Items, bytes_of, text}
+use Rattle.protobuf_parse_descriptor_set.specs.Items.{Items, bytes_of, part, text}
 use Rattle.protobuf_parse_descriptor_set.specs.OptionItems as items
-use Rattle.protobuf_parse_descriptor_set.specs.DescriptorItems.{enum_items, field_items, file_items}
+use Rattle.protobuf_parse_descriptor_set.specs.DescriptorItems.{FileAndInfo, enum_items}
+use Rattle.protobuf_parse_descriptor_set.specs.DescriptorItems.{field_items, file_and_info_items}
+use Rattle.protobuf_parse_descriptor_set.specs.DescriptorItems.{file_items, file_with}
+use Rattle.protobuf_parse_descriptor_set.specs.DescriptorItems.{set_bytes_with_info}
 use Rattle.protobuf_parse_descriptor_set.specs.DescriptorItems.{message_items, service_items}
 use Rattle.protobuf_parse_descriptor_set.specs.DescriptorItems.{syntax_items}
 use Rattle.protobuf_parse_set_reader.specs.declared.fault.SetFaultKind.TheVariants as kind
@@ -25,18 +28,22 @@ use Rattle.protobuf_parse_set_reader.specs.TypeNames.{message_names, names_aroun
 use Rattle.protobuf_parse_set_reader.specs.TypeNames.{type_named, within}
 use Rattle.protobuf_parse_set_reader.specs.Reading.{enum_of, field_of, file_of, files_of}
 use Rattle.protobuf_parse_set_reader.specs.Reading.{message_of}
-use Rattle.protobuf_parse_set_reader.specs.Reading.{service_of, set_of}
+use Rattle.protobuf_parse_set_reader.specs.Reading.{service_of, set_file_of, set_files_of, set_of}
+use Rattle.protobuf_parse_set_reader.specs.Reading.{set_with_info_of}
 use Rattle.protobuf_parse_set_laws.specs.Kept.{EnumKept, FieldKept, FileKept, HasName, IsText}
 use Rattle.protobuf_parse_set_laws.specs.Kept.{MessageKept, MessagesKept, ServiceKept}
-use Rattle.protobuf_parse_set_laws.specs.Kept.{SetsAreReadBack, enum_back, field_back, file_back}
-use Rattle.protobuf_parse_set_laws.specs.Kept.{message_back, service_back, syntax_back}
+use Rattle.protobuf_parse_set_laws.specs.Kept.{SetsAreReadBack, SetsWithInfoAreReadBack}
+use Rattle.protobuf_parse_set_laws.specs.Kept.{enum_back, field_back, file_back, message_back}
+use Rattle.protobuf_parse_set_laws.specs.Kept.{service_back, syntax_back, with_info_back}
 use Rattle.protobuf_parse_set_laws.proofs.Written.{Held, Holds, octets}
 use Rattle.protobuf_parse_set_laws.proofs.Pieces.{AreHeld}
-use Rattle.protobuf_parse_set_laws.proofs.Lines.{Line, Piece, a_text, line, message_read}
+use Rattle.protobuf_parse_set_laws.proofs.Lines.{Line, MessageRead, Piece, a_text, chained, line}
+use Rattle.protobuf_parse_set_laws.proofs.Lines.{message_read}
 use Rattle.protobuf_parse_set_laws.proofs.Lines.{int_held, nothing, some_ints, some_options_held}
 use Rattle.protobuf_parse_set_laws.proofs.Lines.{some_options, some_parts}
-use Rattle.protobuf_parse_set_laws.proofs.Lines.{some_text, some_texts, text_held}
-use Rattle.protobuf_parse_set_laws.proofs.Said.{Says, inside_said, ints_said, needed_said}
+use Rattle.protobuf_parse_set_laws.proofs.Lines.{some_text, some_texts, some_whole, text_held}
+use Rattle.protobuf_parse_set_laws.proofs.Said.{Says, bytes_said, inside_said, ints_said}
+use Rattle.protobuf_parse_set_laws.proofs.Said.{needed_said}
 use Rattle.protobuf_parse_set_laws.proofs.Said.{parts_said, text_said, texts_said}
 use Rattle.protobuf_parse_set_laws.proofs.Options.{options_said}
 use Rattle.protobuf_parse_set_laws.proofs.OptionMessages.{file_options_say}
@@ -155,15 +162,20 @@ syntax_text (Some s) utf8 = by_test (bytes_eq s (codes "proto3"))
     by_test true = utf8
     by_test false = tt
 
-abbrev file_lines : (f : FileDescriptor) → FileKept f → List Line
-file_lines f kept = line 1 (some_text 1 f.name) ∷ line 2 (some_text 2 f.«package»)
+abbrev file_lines : (info : Option Text) (f : FileDescriptor) → FileKept f → List Line
+file_lines info f kept = line 1 (some_text 1 f.name) ∷ line 2 (some_text 2 f.«package»)
     ∷ line 3 (some_texts 3 f.dependency) ∷ line 4 (some_parts 4 message_items f.message_type)
     ∷ line 5 (some_parts 5 enum_items f.enum_type) ∷ line 6 (some_parts 6 service_items f.service)
     ∷ line 7 (some_parts 7 field_items f.extension)
-    ∷ line 8 (some_options 8 items.file_option_bytes f.options)
+    ∷ line 8 (some_options 8 items.file_option_bytes f.options) ∷ line 9 (some_whole 9 info)
     ∷ line 10 (some_ints 10 f.public_dependency kept.public_dependency)
     ∷ line 11 (some_ints 11 f.weak_dependency kept.weak_dependency) ∷ line 12 (a_syntax f.syntax)
     ∷ []
+
+-- A file that was written, at some offset.
+abbrev FileIsRead : (info : Option Text) (f : FileDescriptor) → FileKept f → ℕ → Type 0
+FileIsRead info f kept start =
+    MessageRead (file_lines info f kept) start (bytes_of (chained [] (file_lines info f kept)))
 
 -- the name that a file has
 record NameOf (name : Option Text) : Type 0 where
@@ -175,12 +187,11 @@ name_of_file : (name : Option Text) → HasName name → NameOf name
 name_of_file None has = absurd has
 name_of_file (Some t) has = record { it = t; is = refl; text = has }
 
-file_says : (types : Types) (f : FileDescriptor) → FileKept f
-    → Says (file_of types) (bytes_of (file_items f)) (file_back f)
-unfolding file_of file_items
-file_says types f kept lt start =
-    let ls = file_lines f kept in
-    let r = message_read ls refl lt start in
+file_said : (types : Types) (info : Option Text) (f : FileDescriptor) (kept : FileKept f)
+    (start : ℕ) (r : FileIsRead info f kept start) → file_of types r.body ≡ Ok (file_back f)
+unfolding file_of
+file_said types info f kept start r =
+    let ls = file_lines info f kept in
     let name = name_of_file f.name kept.name in
     let e1 = needed_said kind.NoName 1 r.body name.it name.text (subst (λ (z : Option Text).
     AreHeld (text_held z) (numbered 1 r.body.records)) name.is (held ls start _ r 1 (text_held
@@ -211,12 +222,30 @@ file_says types f kept lt start =
     let e11 = options_said file_options_of 8 r.body items.file_option_bytes f.options (if_some _ _
     f.options (λ o k. file_options_say o k) kept.options) (held ls start _ r 8 (some_options_held
     items.file_option_bytes f.options) refl) in
-    rw (r.read, e1, e2, e3, e4, e5, e6, e7, e8, e9, e10, e11, sym name.is) refl
+    rw (e1, e2, e3, e4, e5, e6, e7, e8, e9, e10, e11, sym name.is) refl
 
-file_named : (f : FileDescriptor) → FileKept f → Named file_names (bytes_of (file_items f))
-unfolding file_names file_items
-file_named f kept lt start =
-    let ls = file_lines f kept in
+file_says : (types : Types) (info : Option Text) (f : FileDescriptor) → FileKept f
+    → Says (file_of types) (bytes_of (file_with info f)) (file_back f)
+unfolding file_with
+file_says types info f kept lt start =
+    let r = message_read (file_lines info f kept) refl lt start in
+    rw (r.read, file_said types info f kept start r) refl
+
+set_file_says : (types : Types) (f : FileAndInfo) → FileKept f.file
+    → Says (set_file_of types) (bytes_of (file_and_info_items f)) (with_info_back f)
+unfolding set_file_of file_with
+set_file_says types f kept lt start =
+    let ls = file_lines f.source_code_info f.file kept in
+    let r = message_read ls refl lt start in
+    let info = bytes_said 9 r.body f.source_code_info
+    (held ls start _ r 9 (text_held f.source_code_info) refl) in
+    rw (r.read, file_said types f.source_code_info f.file kept start r, info) refl
+
+file_named : (info : Option Text) (f : FileDescriptor) → FileKept f
+    → Named file_names (bytes_of (file_with info f))
+unfolding file_names file_with
+file_named info f kept lt start =
+    let ls = file_lines info f kept in
     let r = message_read ls refl lt start in
     let scope = package_scope f.«package» in
     let inside = all_named (message_names 100 scope) (λ m. bytes_of (message_items m))
@@ -237,19 +266,76 @@ file_named f kept lt start =
 
 -- ---- sets
 
-abbrev set_lines : List FileDescriptor → List Line
-set_lines files = line 1 (some_parts 1 file_items files) ∷ []
+-- files that are seen in some way, with source info
+record Files (X : Type 0) : Type 0 where
+  file : X → FileDescriptor
+  info : X → Option Text
+
+abbrev items_of : {X : Type 0} → Files X → X → Items
+items_of seen x = file_with (seen.info x) (seen.file x)
+
+abbrev set_lines : {X : Type 0} → Files X → List X → List Line
+set_lines seen xs = line 1 (some_parts 1 (items_of seen) xs) ∷ []
+
+abbrev AreKept : {X : Type 0} → Files X → List X → Type 0
+AreKept seen xs = AllByRecursion (λ x. FileKept (seen.file x)) xs
+
+-- A set that was written.
+abbrev SetIsRead : {X : Type 0} → Files X → List X → Type 0
+SetIsRead seen xs = MessageRead (set_lines seen xs) 0 (bytes_of (chained [] (set_lines seen xs)))
+
+set_held : {X : Type 0} (seen : Files X) (xs : List X) (r : SetIsRead seen xs)
+    → AreHeld (map (λ x. octets (bytes_of (items_of seen x))) xs) (numbered 1 r.body.records)
+set_held seen xs r = held (set_lines seen xs) 0 _ r 1
+    (map (λ x. octets (bytes_of (items_of seen x))) xs) refl
+
+set_named : {X : Type 0} (seen : Files X) (xs : List X) → AreKept seen xs
+    → (r : SetIsRead seen xs) → AllNamed file_names (numbered 1 r.body.records)
+set_named seen xs kept r =
+    all_named file_names (λ x. bytes_of (items_of seen x)) xs (numbered 1 r.body.records)
+    (all_from (λ x. FileKept (seen.file x)) _ xs
+    (λ x k. file_named (seen.info x) (seen.file x) k) kept)
+    (set_held seen xs r)
+
+set_is_read : {X : Type 0} (seen : Files X) (xs : List X) → AreKept seen xs
+    → length (bytes_of (flat_map (λ x. part 1 (items_of seen x)) xs)) < 2 ^ 64
+    → set_of (bytes_of (flat_map (λ x. part 1 (items_of seen x)) xs))
+    ≡ Ok (map (λ x. file_back (seen.file x)) xs)
+unfolding set_of files_of
+set_is_read seen xs kept lt =
+    let r = message_read (set_lines seen xs) refl lt 0 in
+    let names = set_named seen xs kept r in
+    let said = parts_said (file_of (type_named names.names)) 1 r.body
+    (λ x. bytes_of (items_of seen x)) (λ x. file_back (seen.file x)) xs
+    (all_from (λ x. FileKept (seen.file x)) _ xs
+    (λ x k. file_says (type_named names.names) (seen.info x) (seen.file x) k) kept)
+    (set_held seen xs r) in
+    rw (r.read, names.read, said) refl
 
 pub sets_are_read_back : SetsAreReadBack
-unfolding set_of files_of
+unfolding file_items
 sets_are_read_back files kept lt =
-    let ls = set_lines files in
-    let r = message_read ls refl lt 0 in
-    let names = all_named file_names (λ f. bytes_of (file_items f)) files
-    (numbered 1 r.body.records)
-    (all_from FileKept _ files (λ f k. file_named f k) kept)
-    (held ls 0 _ r 1 (map (λ f. octets (bytes_of (file_items f))) files) refl) in
-    let e1 = parts_said (file_of (type_named names.names)) 1 r.body (λ f. bytes_of (file_items f))
-    file_back files (all_from FileKept _ files (λ f k. file_says (type_named names.names) f k)
-    kept) (held ls 0 _ r 1 (map (λ f. octets (bytes_of (file_items f))) files) refl) in
-    rw (r.read, names.read, e1) refl
+    set_is_read (record { file = λ f. f; info = λ f. None }) files kept lt
+
+abbrev seen_with_info : Files FileAndInfo
+seen_with_info = record { file = λ f. f.file; info = λ f. f.source_code_info }
+
+infos_are_read : (files : List FileAndInfo) → AreKept seen_with_info files
+    → length (set_bytes_with_info files) < 2 ^ 64
+    → set_with_info_of (set_bytes_with_info files) ≡ Ok (map with_info_back files)
+unfolding set_with_info_of set_files_of
+infos_are_read files kept lt =
+    let r = message_read (set_lines seen_with_info files) refl lt 0 in
+    let names = set_named seen_with_info files kept r in
+    let said = parts_said (set_file_of (type_named names.names)) 1 r.body
+    (λ f. bytes_of (file_and_info_items f)) with_info_back files
+    (all_from (λ (f : FileAndInfo). FileKept f.file) _ files
+    (λ f k. set_file_says (type_named names.names) f k) kept)
+    (set_held seen_with_info files r) in
+    rw (r.read, names.read, said) refl
+
+pub sets_with_info_are_read_back : SetsWithInfoAreReadBack
+sets_with_info_are_read_back files kept lt = record {
+  without_info = set_is_read seen_with_info files kept lt;
+  with_info = infos_are_read files kept lt;
+}

@@ -14,7 +14,7 @@ use Rattle.protobuf_parse_records.specs.Laws.{record_later}
 use Rattle.protobuf_parse_records.specs.Splitting.{records_of}
 use Rattle.protobuf_parse_descriptor_set.specs.Items.{Items, bytes_of, text, int, choice, flag}
 use Rattle.protobuf_parse_descriptor_set.specs.Items.{part}
-use Rattle.protobuf_parse_descriptor_set.specs.Items.{options, some, flag_if}
+use Rattle.protobuf_parse_descriptor_set.specs.Items.{options, some, flag_if, whole}
 use Rattle.protobuf_parse_descriptor_set.proofs.Joining.{bytes_of-append, choice_is, flag_is}
 use Rattle.protobuf_parse_descriptor_set.proofs.Joining.{int_is}
 use Rattle.protobuf_parse_descriptor_set.proofs.Joining.{part_is, text_is, whole_is}
@@ -106,6 +106,14 @@ pub some_piece : {A : Type 0} (m : ℕ) (items : A → Items) (held : A → Held
 some_piece m items held None each = nothing m
 some_piece m items held (Some x) each = each x
 
+-- a message whose bytes are given
+pub a_whole : (m : ℕ) (bs : List ℕ) → Piece m (whole m bs) (octets bs ∷ [])
+a_whole m bs = record { bytes = whole_is m bs ∙ one_pair m (octets bs); words = (tt, tt) }
+
+pub some_whole : (m : ℕ) (bs : Option (List ℕ)) → Piece m (some (whole m) bs) (text_held bs)
+some_whole m None = nothing m
+some_whole m (Some bs) = a_whole m bs
+
 -- what an options message holds
 abbrev pub options_held : List ℕ → List Held
 options_held [] = []
@@ -113,8 +121,7 @@ options_held (b ∷ bs) = octets (b ∷ bs) ∷ []
 
 pub an_options : (m : ℕ) (bs : List ℕ) → Piece m (options m bs) (options_held bs)
 an_options m [] = nothing m
-an_options m (b ∷ bs) =
-    record { bytes = whole_is m (b ∷ bs) ∙ one_pair m (octets (b ∷ bs)); words = (tt, tt) }
+an_options m (b ∷ bs) = a_whole m (b ∷ bs)
 
 -- what an optional one holds
 abbrev pub some_options_held : {A : Type 0} → (A → List ℕ) → Option A → List Held

@@ -9,6 +9,7 @@ use Rattle.std.specs.Int.{w32, w64, cast_signed, cast_unsigned}
 use Rattle.std.specs.Int.RustNames.{FitsSigned}
 use Rattle.std.proofs.lemmas.Bool.{le-ltb}
 use Rattle.std.proofs.lemmas.Int.{ints}
+use Rattle.std.proofs.lemmas.List.{append-nil}
 use Rattle.protobuf_parse_model.specs.Descriptors.{Text}
 use Rattle.protobuf_parse_records.specs.Views.{Extent, WireRecord}
 use Rattle.protobuf_parse_records.specs.Wire.{◌>>=◌}
@@ -19,6 +20,7 @@ use Rattle.protobuf_parse_set_reader.specs.Values.{choice_in, flag_in, flag_or_f
 use Rattle.protobuf_parse_set_reader.specs.Values.{int_in, int_of, int_or_zero, needed_text}
 use Rattle.protobuf_parse_set_reader.specs.Values.{number_in, numbered, one, part_in, parts}
 use Rattle.protobuf_parse_set_reader.specs.Values.{ints_in, packed_or, text_in, texts}
+use Rattle.protobuf_parse_set_reader.specs.Values.{bytes_inside, merged_bytes}
 use Rattle.protobuf_parse_set_reader.specs.Values.{ints as ints_of}
 use Rattle.protobuf_parse_set_laws.proofs.Written.{Held, Holds, octets, word}
 use Rattle.protobuf_parse_set_laws.proofs.Pieces.{AreHeld}
@@ -194,3 +196,18 @@ pub parts_said : {X A : Type 0} (of : BodyView → Answer A) (n : ℕ) (b : Body
     → parts of n b ≡ Ok (map value xs)
 parts_said of n b bytes value xs says held =
     all_parts of bytes value xs (numbered n b.records) says held
+
+-- ---- messages as bytes
+
+record_bytes : (t : List ℕ) (r : WireRecord) → Holds (octets t) r → bytes_inside r ≡ Ok t
+record_bytes t r h =
+    let p = inside_said t r h in
+    rw p.1 (ap (λ z. Ok z) p.2)
+
+pub bytes_said : (n : ℕ) (b : BodyView) (t : Option (List ℕ))
+    → AreHeld (text_held t) (numbered n b.records) → merged_bytes n b ≡ Ok t
+unfolding merged_bytes
+bytes_said n b None held = rw (no_record (numbered n b.records) held) refl
+bytes_said n b (Some t) held =
+    let p = one_record (octets t) (numbered n b.records) held in
+    rw (p.1, record_bytes t p.0 p.2) (ap (λ z. Ok (Some z)) (append-nil t))

@@ -20,9 +20,10 @@ use Rattle.protobuf_parse_model.specs.Options.{ServiceOptionValues, MethodOption
 use Rattle.protobuf_parse_descriptor_set.specs.OneofOrder.{fields_in_set, oneofs_in_set}
 use Rattle.protobuf_parse_descriptor_set.specs.RangeEnds.{ranges_in_set}
 use Rattle.protobuf_parse_descriptor_set.specs.OptionItems as options
-use Rattle.protobuf_parse_descriptor_set.specs.DescriptorItems.{set_bytes}
+use Rattle.protobuf_parse_descriptor_set.specs.DescriptorItems.{FileAndInfo, set_bytes}
+use Rattle.protobuf_parse_descriptor_set.specs.DescriptorItems.{set_bytes_with_info}
 use Rattle.protobuf_parse_set_reader.specs.OptionReading as reading
-use Rattle.protobuf_parse_set_reader.specs.Reading.{set_of}
+use Rattle.protobuf_parse_set_reader.specs.Reading.{SetFileView, set_of, set_with_info_of}
 
 -- ---- as they come back
 
@@ -110,6 +111,10 @@ file_back f = record f {
   extension = map field_back f.extension;
   options = options_back options.file_option_bytes f.options;
 }
+
+-- a file with its source info
+abbrev pub with_info_back : FileAndInfo → SetFileView
+with_info_back f = record { file = file_back f.file; source_code_info = f.source_code_info }
 
 -- ---- which come back: those whose texts are UTF-8 and whose numbers are int32, as Rust's types
 -- say, with at most 100 messages inside one another, whose custom options set no built-in one, and
@@ -241,3 +246,16 @@ pub record FileKept (f : FileDescriptor) : Type 0 where
 abbrev pub SetsAreReadBack : Type 0
 SetsAreReadBack = (files : List FileDescriptor) → AllByRecursion FileKept files
     → length (set_bytes files) < 2 ^ 64 → set_of (set_bytes files) ≡ Ok (map file_back files)
+
+-- What is written of such files with source info, which may have any bytes, is read as these, with
+-- the source info and without.
+pub record AreReadBack (files : List FileAndInfo) : Type 0 where
+  pub without_info : set_of (set_bytes_with_info files)
+      ≡ Ok (map (λ (f : FileAndInfo). file_back f.file) files)
+  pub with_info : set_with_info_of (set_bytes_with_info files) ≡ Ok (map with_info_back files)
+
+-- The same for all such files in fewer than 2 ^ 64 bytes.
+abbrev pub SetsWithInfoAreReadBack : Type 0
+SetsWithInfoAreReadBack = (files : List FileAndInfo)
+    → AllByRecursion (λ (f : FileAndInfo). FileKept f.file) files
+    → length (set_bytes_with_info files) < 2 ^ 64 → AreReadBack files

@@ -1,6 +1,6 @@
 //! Laws of the definitions. The functions do nothing.
 
-ghost use Rattle.protobuf_parse_set_laws.specs.Kept.{SetsAreReadBack};
+ghost use Rattle.protobuf_parse_set_laws.specs.Kept.{SetsAreReadBack, SetsWithInfoAreReadBack};
 
 /// What `descriptor_set` writes of files is read by `read_descriptor_set` as these files in the
 /// form that sets have: an options message in which nothing is set is none, oneofs stand in the
@@ -11,6 +11,10 @@ ghost use Rattle.protobuf_parse_set_laws.specs.Kept.{SetsAreReadBack};
 /// each file has a name, that at most 100 messages stand inside one another, that the bytes of
 /// custom options are records of which none sets a built-in option, and that the set has fewer than
 /// 2^64 bytes.
+///
+/// The same holds of what `descriptor_set_with_info` writes, and `read_descriptor_set_with_info`
+/// reads the source info of each file as well, which may be any bytes.
 pub fn sets_are_read_back()
-    ensures { SetsAreReadBack }
+    ensures without_info { SetsAreReadBack }
+    ensures with_info { SetsWithInfoAreReadBack }
 {}

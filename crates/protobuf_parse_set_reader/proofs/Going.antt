@@ -13,7 +13,7 @@ use Rattle.protobuf_parse_set_reader.specs.declared.fault.SetError.{SetError}
 use Rattle.protobuf_parse_set_reader.specs.declared.fault.SetError.TheVariants as error
 use Rattle.protobuf_parse_set_reader.specs.Answers.{Answer, Fails}
 use Rattle.protobuf_parse_set_reader.specs.Values.{BodyView, all_of, last_of, last_one, merged}
-use Rattle.protobuf_parse_set_reader.specs.Values.{merged_of}
+use Rattle.protobuf_parse_set_reader.specs.Values.{bytes_merged, merged_bytes, merged_of}
 use Rattle.protobuf_parse_set_reader.specs.Values.{numbered}
 use Rattle.protobuf_parse_set_reader.specs.Bodies.{record_seen}
 use Rattle.protobuf_parse_set_reader.proofs.Steps.{all_joined, all_stopped}
@@ -124,3 +124,10 @@ pub none_merged : {A : Type 0} (of : BodyView → Answer A) (n : ℕ) (b : BodyV
 unfolding merged
 none_merged of n b None e none = ap (merged_of of b.start) (none_last _ (sym e))
 none_merged of n b (Some r) e none = absurd (cc)
+
+-- The same of bytes.
+pub no_bytes_merged : (n : ℕ) (b : BodyView) (last : Option Record)
+    → record_seen last ≡ last_of n b → is_some last ≡ false → merged_bytes n b ≡ Ok None
+unfolding merged_bytes
+no_bytes_merged n b None e none = ap bytes_merged (none_last _ (sym e))
+no_bytes_merged n b (Some r) e none = absurd (cc)

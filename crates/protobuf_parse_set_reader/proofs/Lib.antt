@@ -4,3 +4,4 @@ pub mod Packed
 pub mod Splitting
 pub mod Levels
 pub mod Naming
+pub mod SameFiles

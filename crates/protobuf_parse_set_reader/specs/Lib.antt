@@ -5,3 +5,4 @@ pub mod OptionReading
 pub mod TypeNames
 pub mod Bodies
 pub mod Reading
+pub mod SourceInfo

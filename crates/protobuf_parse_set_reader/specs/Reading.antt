@@ -1,5 +1,5 @@
 -- The messages of google/protobuf/descriptor.proto as descriptors: a line a field, with its number
--- there. What has no line is passed over.
+-- there. What has no line is passed over. Source info has one for readers that ask for it.
 use Rattle.std.specs.Prelude.{ℕ, zero, suc, List, Option, Some, Ok}
 use Rattle.std.specs.Option.{option_and_then}
 use Rattle.protobuf_parse_base.specs.Cases.{json_name_text}
@@ -16,6 +16,7 @@ use Rattle.protobuf_parse_set_reader.specs.declared.fault.SetFaultKind.TheVarian
 use Rattle.protobuf_parse_set_reader.specs.Answers.{Answer, fault}
 use Rattle.protobuf_parse_set_reader.specs.Values.{BodyView, body_of, choice_in, flag_or_false}
 use Rattle.protobuf_parse_set_reader.specs.Values.{int_in, int_or_zero, ints, merged}
+use Rattle.protobuf_parse_set_reader.specs.Values.{merged_bytes}
 use Rattle.protobuf_parse_set_reader.specs.Values.{needed_text, one, or_else, parts, text_in, texts}
 use Rattle.protobuf_parse_set_reader.specs.Choices.{label_numbered, type_numbered}
 use Rattle.protobuf_parse_set_reader.specs.OptionReading.{file_options_of, message_options_of}
@@ -221,3 +222,29 @@ unfoldable pub set_of : List ℕ → Answer (List FileDescriptor)
 set_of bytes = do
   b ← body_of (record { start = 0; bytes = bytes })
   files_of b
+
+-- ---- files with source info
+
+-- a file of a set, and the bytes of its SourceCodeInfo, if it has one
+pub record SetFileView : Type 0 where
+  pub file : FileDescriptor
+  pub source_code_info : Option Text
+
+-- FileDescriptorProto
+unfoldable pub set_file_of : Types → BodyView → Answer SetFileView
+set_file_of types b = do
+  file ← file_of types b
+  source_code_info ← merged_bytes 9 b
+  Ok (record { file = file; source_code_info = source_code_info })
+
+-- FileDescriptorSet
+unfoldable pub set_files_of : BodyView → Answer (List SetFileView)
+set_files_of b = do
+  types ← set_types b
+  parts (set_file_of types) 1 b
+
+-- the files of a set with their source info
+unfoldable pub set_with_info_of : List ℕ → Answer (List SetFileView)
+set_with_info_of bytes = do
+  b ← body_of (record { start = 0; bytes = bytes })
+  set_files_of b

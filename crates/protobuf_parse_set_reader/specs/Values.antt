@@ -222,3 +222,20 @@ merged_of of start (r ∷ rs) = do
 -- a message that is not repeated: what all records with the number say together
 unfoldable pub merged : {A : Type 0} → (BodyView → Answer A) → ℕ → BodyView → Answer (Option A)
 merged of n b = merged_of of b.start (numbered n b.records)
+
+-- the bytes that a record holds
+abbrev pub bytes_inside : WireRecord → Answer (List ℕ)
+bytes_inside r = do
+  s ← inside_in r
+  Ok s.bytes
+
+-- those that records hold, one behind the other, if there are any records
+abbrev pub bytes_merged : List WireRecord → Answer (Option (List ℕ))
+bytes_merged [] = Ok None
+bytes_merged (r ∷ rs) = do
+  bytes ← all_of bytes_inside (r ∷ rs)
+  Ok (Some bytes)
+
+-- the bytes of a message that is not repeated: those of all its parts are the bytes of one message
+unfoldable pub merged_bytes : ℕ → BodyView → Answer (Option (List ℕ))
+merged_bytes n b = bytes_merged (numbered n b.records)

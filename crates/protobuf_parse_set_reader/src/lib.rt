@@ -12,11 +12,10 @@ mod messages;
 mod options;
 mod parts;
 mod sets;
+mod source_info;
 mod type_names;
 mod values;
 
 pub use fault::{SetError, SetFault, SetFaultKind};
-pub use sets::read_descriptor_set;
-
-#[cfg(test)]
-mod tests;
+pub use sets::{read_descriptor_set, read_descriptor_set_with_info};
+pub use source_info::SetFile;

@@ -3,7 +3,8 @@ use Rattle.std.proofs.Common.{◌≡◌, ◌∙◌, ℕ, List, [], ◌∷◌, �
 use Rattle.std.specs.List.{flat_map}
 use Rattle.protobuf_parse_base.specs.DeclaredNames.{name_bytes}
 use Rattle.protobuf_parse_model.specs.Descriptors.{MessageDescriptor, Text, enum_view}
-use Rattle.protobuf_parse_model.specs.Descriptors.{message_parts, message_view, messages_of_list}
+use Rattle.protobuf_parse_model.specs.Descriptors.{message_view, messages_of_list}
+use Rattle.protobuf_parse_model.specs.MessageParts.{message_parts}
 use Rattle.protobuf_parse_model.specs.declared.descriptor.DescriptorProto.{DescriptorProto}
 use Rattle.protobuf_parse_model.specs.declared.descriptor.DescriptorProto.{out-DescriptorProto}
 use Rattle.protobuf_parse_model.specs.declared.scope.seen.TypeKind.TheVariants as kind

@@ -22,6 +22,3 @@ pub use files::check_set;
 pub use law::types_are_declared;
 pub use rule::SetRule;
 pub use violation::SetViolation;
-
-#[cfg(test)]
-mod tests;

@@ -1,7 +1,8 @@
 //! Messages, with what stands in them.
 
 ghost use Rattle.std.specs.Prelude.{◌≡◌, ◌++◌, OnOk, flat_map, map};
-ghost use Rattle.protobuf_parse_model.specs.Descriptors.{message_parts, message_view};
+ghost use Rattle.protobuf_parse_model.specs.Descriptors.{message_view};
+ghost use Rattle.protobuf_parse_model.specs.MessageParts.{message_parts};
 ghost use Rattle.protobuf_parse_set_rules.specs.Rules as spec;
 ghost use Rattle.protobuf_parse_set_rules.specs.Held.{sight_view};
 ghost use Rattle.protobuf_parse_set_rules.specs.Views.{told};

@@ -14,6 +14,3 @@ mod walker;
 pub use info::{Location, SourceCodeInfo, Span, source_info};
 pub use laws::tokens_have_points;
 pub use protobuf_parse_comments::BytePlace;
-
-#[cfg(test)]
-mod tests;

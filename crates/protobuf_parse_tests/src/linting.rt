@@ -85,7 +85,7 @@ fn linters_tell_their_own_rules(rt: HostRuntime) -> Result<(), Fail> {
     }
     let want = format!(in alloc;
         "{path}:3:1: warning: `Item` has no owner; set `option (owner)` [no-owner]\n\
-         {path}:4:3: error: `shop.Item.a`: the number 0 is not positive [C2]\n"
+         {path}:4:13: error: `shop.Item.a`: the number 0 is not positive [C2]\n"
     )?;
     assert_eq!(rt; lines.as_str(), want.as_str());
     Ok(())

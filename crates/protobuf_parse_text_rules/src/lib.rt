@@ -16,6 +16,3 @@ mod violation;
 pub use rule::TextRule;
 pub use statements::text_violations;
 pub use violation::{TextViolation, tell, tell_if};
-
-#[cfg(test)]
-mod tests;

@@ -10,20 +10,23 @@ ghost use Rattle.protobuf_parse.specs.Folders.{MayFind};
 ghost use Rattle.protobuf_parse.specs.NameSets.{HasNames};
 ghost use Rattle.protobuf_parse.specs.Checking.{IsCheckOfInputs, TellsCheckFault};
 ghost use Rattle.protobuf_parse.specs.Outcomes.{CheckedOverFolders};
-ghost use Rattle.protobuf_parse_model.specs.Descriptors.{Text};
+ghost use Rattle.protobuf_parse_model.specs.Descriptors.{Text, file_view};
 ghost use Rattle.protobuf_parse.specs.Parsers.{IsParsed, IsSameParser, IsSetOfInputs};
 ghost use Rattle.protobuf_parse.specs.Parsers.{MayReadAnything, TellsFault};
-ghost use Rattle.protobuf_parse.specs.Outcomes.{RanOverFolders};
+ghost use Rattle.protobuf_parse.specs.Outcomes.{RanOverFolders, files_of_run};
+ghost use Rattle.protobuf_parse.specs.SourceInfo.{AreFileInfos};
 ghost use Rattle.protobuf_parse.specs.Parsers.{bundled_of, includes_of, inputs_at, inputs_of};
 ghost use Rattle.protobuf_parse.specs.Parsers.{is_name_among, is_of_input};
 
 use crate::parser::files::{FsReader, copy_texts, fs_resolver};
 use crate::parser::includes::proto_paths_of;
+use crate::parser::source_info::infos_of_files;
 use protobuf_parse_base::proto_path::ProtoPathBuf;
 use protobuf_parse_check::{Check, CheckLog, check_inputs};
 use protobuf_parse_google::google_files;
 use protobuf_parse_model::{FileDescriptorProto, FileDescriptorSet};
-use protobuf_parse_run::{RunFault, RunInput, bundled_files, run_inputs};
+use protobuf_parse_run::{ReadEntry, RunFault, RunInput, RunLog, bundled_files, run_inputs};
+use protobuf_parse_source_info::SourceCodeInfo;
 use std::alloc::{AllocError, Global};
 use std::collections::BTreeSet;
 use std::rt::Files;
@@ -57,6 +60,15 @@ pub struct ParsedAndTypechecked {
     pub file_descriptors: Vec<FileDescriptorProto>,
     /// Which parser was used: `pure`.
     pub parser: String,
+}
+
+/// What a run of a [`Parser`] gave, with where all of it stands in the texts.
+#[derive(Drop)]
+pub struct ParsedWithSourceInfo {
+    pub parsed: ParsedAndTypechecked,
+    /// Of each of the descriptors, in their order, the places and the comments of what its file
+    /// declares.
+    pub source_info: Vec<SourceCodeInfo<'static>>,
 }
 
 impl Parser {
@@ -232,6 +244,44 @@ impl Parser {
         })
     }
 
+    /// [`Parser::parse_and_typecheck`], and of each file where its constructs stand in the text, and
+    /// which comments are theirs: what `protoc --include_source_info` has. The errors are the same.
+    ///
+    /// ```
+    /// let ParsedWithSourceInfo { parsed, source_info } = parser.parse_with_source_info(&rt)?;
+    /// for (file, info) in parsed.file_descriptors.iter().zip(&source_info) {
+    ///     let locations = FileLocations::of(alloc, file, info)?;
+    /// }
+    /// ```
+    pub fn parse_with_source_info<R: Files + AllocGlobal>(
+        &self,
+        rt: &R,
+    ) -> Result<ParsedWithSourceInfo, RunFault>
+        ensures parsed { IfOk result (λ p. IsParsed (bundled_of self.now)
+            (includes_of self.now) (inputs_of self.now) p.parsed) }
+        ensures infos { IfOk result (λ p. AreFileInfos
+            (map file_view p.parsed.file_descriptors.items) p.source_info.items) }
+        ensures fault { IfErr result (TellsFault (bundled_of self.now)
+            (includes_of self.now) (inputs_of self.now)) }
+        ensures caused { IfErr result (λ f.
+            IsCaused (MayFind (includes_of self.now)) MayReadAnything f) }
+    {
+        let alloc = rt.alloc();
+        let names = proto_paths_of(alloc, &self.includes, &self.inputs)?;
+        let logged = self.run_with_reads(rt, &names)?;
+        let LoggedRun { reads, files } = logged;
+        let source_info = infos_of_files(alloc, &reads, self.bundled(), &files)?;
+        let parsed = ParsedAndTypechecked {
+            relative_paths: names,
+            file_descriptors: files,
+            parser: String::from_str(alloc, "pure")?,
+        };
+        Ok(ParsedWithSourceInfo {
+            parsed,
+            source_info,
+        })
+    }
+
     /// The descriptors of the inputs alone, in the order of [`Parser::parse_and_typecheck`], and
     /// its errors.
     ///
@@ -297,12 +347,27 @@ impl Parser {
         ensures caused { IfErr result (λ f.
             IsCaused (MayFind (includes_of self.now)) MayReadAnything f) }
     {
+        files_alone(self.run_with_reads(rt, names))
+    }
+
+    /// The same, with what the run read.
+    fn run_with_reads<R: Files + AllocGlobal>(
+        &self,
+        rt: &R,
+        names: &[ProtoPathBuf],
+    ) -> Result<LoggedRun, RunFault>
+        requires { length names.now ≡ length self.now.inputs.items }
+        ensures ran { RanOverFolders (bundled_of self.now) (includes_of self.now)
+            (inputs_of self.now) (map path_buf_text names.now) (files_of_run result) }
+        ensures caused { IfErr result (λ f.
+            IsCaused (MayFind (includes_of self.now)) MayReadAnything f) }
+    {
         let alloc = rt.alloc();
         let folders = text_slices(alloc, &self.includes)?;
         let resolver = fs_resolver(rt, alloc, &folders)?;
         let reader = FsReader::new(rt);
         let given = place_inputs(alloc, &self.inputs, names)?;
-        run_inputs(alloc, &given, &resolver, &reader, self.bundled()).result
+        with_reads(run_inputs(alloc, &given, &resolver, &reader, self.bundled()))
     }
 
     /// What the check of the inputs by these proto paths tells, with imports from the includes.
@@ -337,6 +402,38 @@ impl Parser {
         } else {
             bundled_files()
         }
+    }
+}
+
+/// What a run read, and the descriptors that it made.
+#[derive(Drop)]
+struct LoggedRun {
+    reads: Vec<ReadEntry>,
+    files: Vec<FileDescriptorProto>,
+}
+
+/// The descriptors of a run with its reads, or its fault.
+fn with_reads(log: RunLog) -> Result<LoggedRun, RunFault>
+    ensures { files_of_run result ≡ log.result }
+{
+    let RunLog {
+        reads,
+        meets: _,
+        result,
+    } = log;
+    match result {
+        Ok(files) => Ok(LoggedRun { reads, files }),
+        Err(fault) => Err(fault),
+    }
+}
+
+/// The descriptors without the reads, or the fault.
+fn files_alone(run: Result<LoggedRun, RunFault>) -> Result<Vec<FileDescriptorProto>, RunFault>
+    ensures { result ≡ files_of_run run }
+{
+    match run {
+        Ok(LoggedRun { reads: _, files }) => Ok(files),
+        Err(fault) => Err(fault),
     }
 }
 

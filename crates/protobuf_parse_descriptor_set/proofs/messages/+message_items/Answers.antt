@@ -2,7 +2,8 @@ use Rattle.std.proofs.Common.{◌≡◌, ◌∙◌, Bool, List, ap, arith, lengt
 use Rattle.std.proofs.lemmas.List.{length-map}
 use Rattle.std.specs.Prelude.{vec_len}
 use Rattle.std.specs.List.{range_with_len}
-use Rattle.protobuf_parse_model.specs.Descriptors.{field_view, message_parts, message_view}
+use Rattle.protobuf_parse_model.specs.Descriptors.{field_view, message_view}
+use Rattle.protobuf_parse_model.specs.MessageParts.{message_parts}
 use Rattle.protobuf_parse_model.specs.Descriptors.{oneof_view}
 use Rattle.protobuf_parse_model.specs.declared.descriptor.DescriptorProto.{DescriptorProto}
 use Rattle.protobuf_parse_model.specs.declared.descriptor.DescriptorProto.{out-DescriptorProto}

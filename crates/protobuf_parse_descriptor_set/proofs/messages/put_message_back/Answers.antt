@@ -1,7 +1,8 @@
 use Rattle.std.proofs.Common.{◌∙◌, ap, length, sym}
 use Rattle.std.proofs.lemmas.List.{length-map}
 use Rattle.std.proofs.lemmas.List.FromFn.{length-map-range_with_len}
-use Rattle.protobuf_parse_model.specs.Descriptors.{message_parts, oneof_view}
+use Rattle.protobuf_parse_model.specs.Descriptors.{oneof_view}
+use Rattle.protobuf_parse_model.specs.MessageParts.{message_parts}
 use Rattle.protobuf_parse_descriptor_set.specs.OneofOrder.{is_synthetic}
 use Rattle.protobuf_parse_descriptor_set.specs.DescriptorItems.{message_back}
 use Rattle.protobuf_parse_descriptor_set.proofs.Joining.{joined, on_ok_then}

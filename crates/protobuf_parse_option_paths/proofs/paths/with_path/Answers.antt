@@ -7,7 +7,8 @@ use Rattle.protobuf_parse_syntax.specs.declared.tree.option.ProtobufOptionName.{
 use Rattle.protobuf_parse_model.specs.Descriptors.{file_view}
 use Rattle.protobuf_parse_source_info.specs.Views.{location_view, name_seen}
 use Rattle.protobuf_parse_source_info.specs.Walks.{Path}
-use Rattle.protobuf_parse_option_paths.specs.InnerViews.{PutsLead, steps_seen}
+use Rattle.protobuf_parse_option_paths.specs.InnerViews.{PutsLead}
+use Rattle.protobuf_parse_option_paths.specs.Views.{steps_seen}
 use Rattle.protobuf_parse_option_paths.specs.Paths.{Lead, lead_from, lead_of, steps_at}
 use Rattle.protobuf_parse_option_paths.specs.Views.{files_view}
 use Rattle.protobuf_parse_option_paths.specs.declared.names.Step.{Step}

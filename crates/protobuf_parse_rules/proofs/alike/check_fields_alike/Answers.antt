@@ -4,7 +4,8 @@ use Rattle.protobuf_parse_rules.specs.Alike.{Spelled, field_alike_rule, spelled_
 use Rattle.protobuf_parse_rules.specs.Alike.{spelled_field}
 use Rattle.protobuf_parse_rules.specs.Claims.{conflicts}
 use Rattle.protobuf_parse_rules.specs.Keys.{text_key}
-use Rattle.protobuf_parse_rules.specs.Bodies.{content_view, fields_of}
+use Rattle.protobuf_parse_rules.specs.Bodies.{fields_of}
+use Rattle.protobuf_parse_rules.specs.BodyViews.{content_view}
 use Rattle.protobuf_parse_rules.specs.Rules.{breaches_told}
 use Rattle.protobuf_parse_rules.proofs.Keying.{no_text_told}
 use Rattle.protobuf_parse_rules.proofs.alike.check_fields_alike.Goals as goal

@@ -2,7 +2,7 @@ use Rattle.std.proofs.Common.{◌≡◌, false, map, take}
 use Rattle.std.specs.List.{list_any}
 use Rattle.protobuf_parse_model.specs.Descriptors.{field_view}
 use Rattle.protobuf_parse_rules.specs.Asking.{field_asks}
-use Rattle.protobuf_parse_rules.specs.Bodies.{content_view}
+use Rattle.protobuf_parse_rules.specs.BodyViews.{content_view}
 use Rattle.protobuf_parse_rules.proofs.asking.any_field_asks.Given as goal
 
 abbrev pub invariant-fields : goal.invariant-fields

@@ -5,9 +5,11 @@ use Rattle.std.proofs.lemmas.Bool.Decides.{nat_tests}
 use Rattle.std.proofs.lemmas.List.{nil_from_length}
 use Rattle.protobuf_parse_model.specs.declared.descriptor.DescriptorProto.{DescriptorProto}
 use Rattle.protobuf_parse_model.specs.declared.descriptor.DescriptorProto.{out-DescriptorProto}
-use Rattle.protobuf_parse_model.specs.Descriptors.{Text, message_parts, message_view}
+use Rattle.protobuf_parse_model.specs.Descriptors.{Text, message_view}
+use Rattle.protobuf_parse_model.specs.MessageParts.{message_parts}
 use Rattle.protobuf_parse_wire.specs.Declarations.{Declaration, declared_message, name_within}
-use Rattle.protobuf_parse_rules.specs.Bodies.{BodyParts, body_view, message_body}
+use Rattle.protobuf_parse_rules.specs.Bodies.{BodyParts, message_body}
+use Rattle.protobuf_parse_rules.specs.BodyViews.{body_view}
 use Rattle.protobuf_parse_rules.proofs.Lists.{joined_one_more}
 use Rattle.protobuf_parse_rules.proofs.Placing.{message_declared, bodies_more}
 use Rattle.protobuf_parse_rules.proofs.bodies.+messages.Goals as goal

@@ -2,7 +2,8 @@ use Rattle.std.proofs.Common.{◌≡◌, ◌++◌, map, take}
 use Rattle.std.specs.List.{flat_map}
 use Rattle.protobuf_parse_model.specs.Descriptors.{message_view}
 use Rattle.protobuf_parse_wire.specs.Declarations.{declared_message}
-use Rattle.protobuf_parse_rules.specs.Bodies.{message_body, body_view}
+use Rattle.protobuf_parse_rules.specs.Bodies.{message_body}
+use Rattle.protobuf_parse_rules.specs.BodyViews.{body_view}
 use Rattle.protobuf_parse_rules.proofs.bodies.+messages.Given as goal
 
 abbrev pub invariant-add_messages-messages : goal.invariant-add_messages-messages

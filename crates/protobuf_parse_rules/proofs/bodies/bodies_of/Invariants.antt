@@ -1,7 +1,8 @@
 use Rattle.std.proofs.Common.{◌≡◌, map, take}
 use Rattle.std.specs.List.{flat_map}
 use Rattle.protobuf_parse_model.specs.Descriptors.{file_view}
-use Rattle.protobuf_parse_rules.specs.Bodies.{body_view, bodies_in}
+use Rattle.protobuf_parse_rules.specs.Bodies.{bodies_in}
+use Rattle.protobuf_parse_rules.specs.BodyViews.{body_view}
 use Rattle.protobuf_parse_rules.proofs.bodies.bodies_of.Given as goal
 
 abbrev pub invariant-files : goal.invariant-files

@@ -1,5 +1,6 @@
 use Rattle.std.proofs.Common.{◌≡◌, ◌++◌, List, flat_map, map, take}
-use Rattle.protobuf_parse_rules.specs.Bodies.{BodyParts, body_view}
+use Rattle.protobuf_parse_rules.specs.Bodies.{BodyParts}
+use Rattle.protobuf_parse_rules.specs.BodyViews.{body_view}
 use Rattle.protobuf_parse_rules.specs.Known.{Finds}
 use Rattle.protobuf_parse_rules.specs.KnownFiles.{known_file, path_named}
 use Rattle.protobuf_parse_rules.specs.Runtimes.{file_at}

@@ -1,7 +1,7 @@
 use Rattle.std.proofs.Common.{◌∙◌, ◌++◌, [], ◌∷◌, Bool, List, ap, length, sym, string_bytes}
 use Rattle.protobuf_parse_model.specs.Descriptors.{Text}
 use Rattle.protobuf_parse_rules.specs.Imports.{import_breaches, unused_import}
-use Rattle.protobuf_parse_rules.specs.Bodies.{body_view}
+use Rattle.protobuf_parse_rules.specs.BodyViews.{body_view}
 use Rattle.protobuf_parse_rules.specs.Rules.{Breach, breaches_at, breaches_told}
 use Rattle.protobuf_parse_rules.specs.Violations.{site_of_body}
 use Rattle.protobuf_parse_rules.proofs.Claiming.{told_more}

@@ -2,7 +2,8 @@ use Rattle.std.proofs.Common.{◌≡◌, ◌++◌, ℤ, List, length, map, take,
 use Rattle.protobuf_parse_rules.specs.Imports.{import_breaches}
 use Rattle.protobuf_parse_rules.specs.KnownUses.{KnowsUses}
 use Rattle.protobuf_parse_rules.specs.Marks.{Marks}
-use Rattle.protobuf_parse_rules.specs.Bodies.{BodyParts, body_view}
+use Rattle.protobuf_parse_rules.specs.Bodies.{BodyParts}
+use Rattle.protobuf_parse_rules.specs.BodyViews.{body_view}
 use Rattle.protobuf_parse_rules.specs.Positions.{by_position}
 use Rattle.protobuf_parse_rules.specs.Rules.{breaches_told}
 use Rattle.protobuf_parse_rules.specs.Violations.{site_of_body}

@@ -3,7 +3,7 @@ use Rattle.std.proofs.Common.{string_bytes}
 use Rattle.std.proofs.lemmas.Result.{on_ok_weaker}
 use Rattle.protobuf_parse_rules.specs.Imports.{import_breaches}
 use Rattle.protobuf_parse_rules.specs.Marks.{Marks}
-use Rattle.protobuf_parse_rules.specs.Bodies.{body_view}
+use Rattle.protobuf_parse_rules.specs.BodyViews.{body_view}
 use Rattle.protobuf_parse_rules.specs.Positions.{by_position}
 use Rattle.protobuf_parse_rules.specs.Rules.{breaches_told}
 use Rattle.protobuf_parse_rules.specs.Violations.{site_of_body}

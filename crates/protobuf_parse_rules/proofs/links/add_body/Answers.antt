@@ -4,7 +4,8 @@ use Rattle.protobuf_parse_model.specs.Descriptors.{FieldDescriptor, ServiceDescr
 use Rattle.protobuf_parse_model.specs.Descriptors.{field_view, service_view}
 use Rattle.protobuf_parse_rules.specs.Imports.{field_types, service_types}
 use Rattle.protobuf_parse_rules.specs.KnownUses.{AddsNames}
-use Rattle.protobuf_parse_rules.specs.Bodies.{body_view, extensions_of, fields_of}
+use Rattle.protobuf_parse_rules.specs.Bodies.{extensions_of, fields_of}
+use Rattle.protobuf_parse_rules.specs.BodyViews.{body_view}
 use Rattle.protobuf_parse_rules.proofs.Linking.{names_more}
 use Rattle.protobuf_parse_rules.proofs.links.add_body.Goals as goal
 

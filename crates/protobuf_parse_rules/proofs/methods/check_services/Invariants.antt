@@ -1,6 +1,7 @@
 use Rattle.std.proofs.Common.{◌≡◌, ◌++◌, List, flat_map, map, take}
 use Rattle.protobuf_parse_model.specs.Descriptors.{service_view}
-use Rattle.protobuf_parse_rules.specs.Bodies.{BodyParts, body_view}
+use Rattle.protobuf_parse_rules.specs.Bodies.{BodyParts}
+use Rattle.protobuf_parse_rules.specs.BodyViews.{body_view}
 use Rattle.protobuf_parse_rules.specs.KnownTables.{Knows}
 use Rattle.protobuf_parse_rules.specs.Methods.{service_breaches}
 use Rattle.protobuf_parse_rules.specs.Rules.{breaches_told}

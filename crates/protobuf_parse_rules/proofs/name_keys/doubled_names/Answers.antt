@@ -1,5 +1,5 @@
 use Rattle.std.proofs.Common.{◌++◌, List, ℕ, flat_map, map, false, sym, ap, ◌∙◌, subst}
-use Rattle.protobuf_parse_rules.specs.Bodies.{body_view}
+use Rattle.protobuf_parse_rules.specs.BodyViews.{body_view}
 use Rattle.protobuf_parse_rules.specs.Crowds.{HasTwice}
 use Rattle.protobuf_parse_rules.specs.Keys.{keys_at}
 use Rattle.protobuf_parse_rules.specs.Names.{Named, names_at}

@@ -1,7 +1,7 @@
 use Rattle.std.proofs.Common.{◌≡◌, flat_map, map, take}
 use Rattle.protobuf_parse_rules.specs.Keys.{packages_at}
 use Rattle.protobuf_parse_rules.specs.KnownNames.{named_view}
-use Rattle.protobuf_parse_rules.specs.Bodies.{body_view}
+use Rattle.protobuf_parse_rules.specs.BodyViews.{body_view}
 use Rattle.protobuf_parse_rules.proofs.names.packages_of.Given as goal
 
 abbrev pub invariant-bodies : goal.invariant-bodies

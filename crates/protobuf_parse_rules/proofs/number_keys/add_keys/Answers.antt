@@ -2,7 +2,7 @@ use Rattle.std.proofs.Common.{◌++◌, flat_map, map, ap, ◌∙◌, string_byt
 use Rattle.std.proofs.lemmas.Result.{on_ok_weaker}
 use Rattle.protobuf_parse_model.specs.Descriptors.{field_view}
 use Rattle.protobuf_parse_rules.specs.Keys.{extension_keys, field_key, text_key}
-use Rattle.protobuf_parse_rules.specs.Bodies.{body_view}
+use Rattle.protobuf_parse_rules.specs.BodyViews.{body_view}
 use Rattle.protobuf_parse_rules.proofs.Keying.{number_keys}
 use Rattle.protobuf_parse_rules.proofs.number_keys.add_keys.Goals as goal
 

@@ -1,6 +1,6 @@
 use Rattle.std.proofs.Common.{List, ℕ, map, ap, sym, ◌∙◌, subst}
 use Rattle.std.specs.List.{flat_map}
-use Rattle.protobuf_parse_rules.specs.Bodies.{body_view}
+use Rattle.protobuf_parse_rules.specs.BodyViews.{body_view}
 use Rattle.protobuf_parse_rules.specs.Crowds.{HasTwice}
 use Rattle.protobuf_parse_rules.specs.Keys.{claim_key}
 use Rattle.protobuf_parse_rules.specs.Numbers.{claims}

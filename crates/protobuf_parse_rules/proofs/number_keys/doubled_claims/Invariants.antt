@@ -3,7 +3,7 @@ use Rattle.std.proofs.Common.{◌≡◌, map, take}
 use Rattle.std.specs.List.{flat_map}
 use Rattle.protobuf_parse_rules.specs.Keys.{claim_key}
 use Rattle.protobuf_parse_rules.specs.Numbers.{claims}
-use Rattle.protobuf_parse_rules.specs.Bodies.{body_view}
+use Rattle.protobuf_parse_rules.specs.BodyViews.{body_view}
 use Rattle.protobuf_parse_rules.proofs.number_keys.doubled_claims.Given as goal
 
 abbrev pub invariant-bodies : goal.invariant-bodies

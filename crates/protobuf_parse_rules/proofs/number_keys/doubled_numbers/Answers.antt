@@ -3,7 +3,7 @@ use Rattle.std.specs.List.{flat_map}
 use Rattle.std.proofs.lemmas.Bool.Decides.{nat_tests}
 use Rattle.std.proofs.lemmas.List.{nil_from_length}
 use Rattle.protobuf_parse_rules.specs.Ascending.{message_scopes}
-use Rattle.protobuf_parse_rules.specs.Bodies.{body_view}
+use Rattle.protobuf_parse_rules.specs.BodyViews.{body_view}
 use Rattle.protobuf_parse_rules.specs.Crowds.{HasTwice}
 use Rattle.protobuf_parse_rules.specs.Keys.{text_key}
 use Rattle.protobuf_parse_rules.specs.Wanted.{has_key}

@@ -1,7 +1,8 @@
 use Rattle.std.proofs.Common.{◌≡◌, List, ℕ, true, false, ap, sym, ◌∙◌, ◌||◌, map}
 use Rattle.std.specs.List.{list_any}
 use Rattle.protobuf_parse_model.specs.Descriptors.{field_view}
-use Rattle.protobuf_parse_rules.specs.Bodies.{BodyParts, body_view, extensions_of, fields_of}
+use Rattle.protobuf_parse_rules.specs.Bodies.{BodyParts, extensions_of, fields_of}
+use Rattle.protobuf_parse_rules.specs.BodyViews.{body_view}
 use Rattle.protobuf_parse_rules.specs.Keys.{text_key}
 use Rattle.protobuf_parse_rules.specs.Wanted.{is_wanted_extension, is_wanted_field}
 use Rattle.protobuf_parse_rules.proofs.WantedNumbers.{any_wanted_number}

@@ -4,7 +4,8 @@ use Rattle.protobuf_parse_model.specs.Descriptors.{Text, FieldDescriptor, field_
 use Rattle.protobuf_parse_rules.specs.Claims.{Claim}
 use Rattle.protobuf_parse_rules.specs.ClaimsKept.{Claims}
 use Rattle.protobuf_parse_rules.specs.Numbers.{extension_claims, field_claims, number_rule}
-use Rattle.protobuf_parse_rules.specs.Bodies.{body_view, fields_of}
+use Rattle.protobuf_parse_rules.specs.Bodies.{fields_of}
+use Rattle.protobuf_parse_rules.specs.BodyViews.{body_view}
 use Rattle.protobuf_parse_rules.proofs.Claiming.{claims_more}
 use Rattle.protobuf_parse_rules.proofs.numbers.check_each.Goals as goal
 

@@ -1,7 +1,7 @@
 use Rattle.std.proofs.Common.{◌∙◌, ◌++◌, [], ◌∷◌, ap, length, sym, string_bytes}
 use Rattle.protobuf_parse_model.specs.Descriptors.{oneof_view}
 use Rattle.protobuf_parse_rules.specs.Oneofs.{oneof_breaches, without_fields}
-use Rattle.protobuf_parse_rules.specs.Bodies.{body_view}
+use Rattle.protobuf_parse_rules.specs.BodyViews.{body_view}
 use Rattle.protobuf_parse_rules.specs.Rules.{breaches_at, breaches_told}
 use Rattle.protobuf_parse_rules.specs.Violations.{site_in}
 use Rattle.protobuf_parse_rules.proofs.Claiming.{told_more}

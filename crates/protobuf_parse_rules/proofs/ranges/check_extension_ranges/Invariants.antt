@@ -1,7 +1,7 @@
 use Rattle.std.proofs.Common.{◌≡◌, ◌++◌, flat_map, map, take}
 use Rattle.protobuf_parse_model.specs.Descriptors.{extension_range_view}
 use Rattle.protobuf_parse_rules.specs.MessageSets.{is_message_set}
-use Rattle.protobuf_parse_rules.specs.Bodies.{body_view, content_view}
+use Rattle.protobuf_parse_rules.specs.BodyViews.{body_view, content_view}
 use Rattle.protobuf_parse_rules.specs.Ranges.{extension_range, ranges_of}
 use Rattle.protobuf_parse_rules.specs.Rules.{breaches_told}
 use Rattle.protobuf_parse_rules.specs.Violations.{site_of_body}

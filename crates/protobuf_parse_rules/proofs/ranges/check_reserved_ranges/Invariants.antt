@@ -1,6 +1,6 @@
 use Rattle.std.proofs.Common.{◌≡◌, ◌++◌, flat_map, map, take}
 use Rattle.protobuf_parse_model.specs.Descriptors.{reserved_range_view}
-use Rattle.protobuf_parse_rules.specs.Bodies.{body_view, content_view}
+use Rattle.protobuf_parse_rules.specs.BodyViews.{body_view, content_view}
 use Rattle.protobuf_parse_rules.specs.Ranges.{ranges_of, reserved_range}
 use Rattle.protobuf_parse_rules.specs.Rules.{breaches_told}
 use Rattle.protobuf_parse_rules.specs.Violations.{site_of_body}

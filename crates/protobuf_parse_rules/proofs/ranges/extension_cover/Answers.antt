@@ -2,7 +2,8 @@ use Rattle.std.proofs.Common.{◌∙◌, Bool, List, ap, map, subst, sym}
 use Rattle.std.specs.Prelude.{if◌then◌else◌}
 use Rattle.std.proofs.lemmas.Result.{IfOk-weaker}
 use Rattle.protobuf_parse_model.specs.Descriptors.{Range}
-use Rattle.protobuf_parse_rules.specs.Bodies.{content_view, extension_ranges}
+use Rattle.protobuf_parse_rules.specs.Bodies.{extension_ranges}
+use Rattle.protobuf_parse_rules.specs.BodyViews.{content_view}
 use Rattle.protobuf_parse_rules.specs.Covers.{AreEnds}
 use Rattle.protobuf_parse_rules.specs.Ranges.{in_range, range_of_set}
 use Rattle.protobuf_parse_rules.proofs.ranges.extension_cover.Goals as goal

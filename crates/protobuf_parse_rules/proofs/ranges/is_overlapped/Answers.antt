@@ -2,7 +2,8 @@ use Rattle.std.proofs.Common.{◌≡◌, List, true, false, ap, sym, ◌∙◌, 
 use Rattle.std.specs.List.{list_any}
 use Rattle.std.proofs.lemmas.List.Folds.{list_any-append}
 use Rattle.protobuf_parse_model.specs.Descriptors.{Range}
-use Rattle.protobuf_parse_rules.specs.Bodies.{content_view, extension_ranges, reserved_ranges}
+use Rattle.protobuf_parse_rules.specs.Bodies.{extension_ranges, reserved_ranges}
+use Rattle.protobuf_parse_rules.specs.BodyViews.{content_view}
 use Rattle.protobuf_parse_rules.specs.Ranges.{overlaps_first, ranges_of}
 use Rattle.protobuf_parse_rules.proofs.Overlapping.{empty_overlapped, open_overlapped}
 use Rattle.protobuf_parse_rules.proofs.ranges.is_overlapped.Goals as goal

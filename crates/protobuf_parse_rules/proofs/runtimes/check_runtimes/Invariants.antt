@@ -1,6 +1,6 @@
 use Rattle.std.proofs.Common.{◌≡◌, ◌++◌, flat_map, map, take}
 use Rattle.protobuf_parse_rules.specs.KnownFiles.{Surroundings, Tells}
-use Rattle.protobuf_parse_rules.specs.Bodies.{body_view}
+use Rattle.protobuf_parse_rules.specs.BodyViews.{body_view}
 use Rattle.protobuf_parse_rules.specs.Rules.{breaches_told}
 use Rattle.protobuf_parse_rules.specs.Runtimes.{runtimes_among}
 use Rattle.protobuf_parse_rules.proofs.runtimes.check_runtimes.Given as goal

@@ -1,7 +1,7 @@
 use Rattle.std.proofs.Common.{◌≡◌, flat_map, map, take}
 use Rattle.protobuf_parse_rules.specs.Known.{owned_enum}
 use Rattle.protobuf_parse_rules.specs.Lookups.{enums_at}
-use Rattle.protobuf_parse_rules.specs.Bodies.{body_view}
+use Rattle.protobuf_parse_rules.specs.BodyViews.{body_view}
 use Rattle.protobuf_parse_rules.proofs.tables.enums_of.Given as goal
 
 abbrev pub invariant-bodies : goal.invariant-bodies

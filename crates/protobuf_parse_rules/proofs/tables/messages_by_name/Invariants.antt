@@ -1,7 +1,7 @@
 use Rattle.std.proofs.Common.{flat_map, map, take}
 use Rattle.protobuf_parse_rules.specs.Known.{Finds, known_message, message_name}
 use Rattle.protobuf_parse_rules.specs.Lookups.{message_at}
-use Rattle.protobuf_parse_rules.specs.Bodies.{body_view}
+use Rattle.protobuf_parse_rules.specs.BodyViews.{body_view}
 use Rattle.protobuf_parse_rules.proofs.tables.messages_by_name.Given as goal
 
 abbrev pub invariant-bodies : goal.invariant-bodies

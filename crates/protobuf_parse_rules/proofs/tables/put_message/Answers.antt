@@ -1,7 +1,7 @@
 use Rattle.std.proofs.Common.{refl, sym}
 use Rattle.protobuf_parse_rules.specs.Known.{known_message, message_name}
 use Rattle.protobuf_parse_rules.specs.Lookups.{NamedMessage}
-use Rattle.protobuf_parse_rules.specs.Bodies.{content_view}
+use Rattle.protobuf_parse_rules.specs.BodyViews.{content_view}
 use Rattle.protobuf_parse_rules.proofs.Naming.{finds_held, finds_new, same_message}
 use Rattle.protobuf_parse_rules.proofs.tables.put_message.Goals as goal
 

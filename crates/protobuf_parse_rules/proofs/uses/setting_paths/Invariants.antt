@@ -1,6 +1,6 @@
 use Rattle.std.proofs.Common.{◌≡◌, flat_map, map, take}
 use Rattle.protobuf_parse_rules.specs.Imports.{setting_path}
-use Rattle.protobuf_parse_rules.specs.Bodies.{body_view}
+use Rattle.protobuf_parse_rules.specs.BodyViews.{body_view}
 use Rattle.protobuf_parse_rules.specs.Sets.{texts_of}
 use Rattle.protobuf_parse_rules.proofs.uses.setting_paths.Given as goal
 

@@ -1,6 +1,6 @@
 use Rattle.std.proofs.Common.{map}
 use Rattle.std.proofs.lemmas.Result.{on_ok_weaker}
-use Rattle.protobuf_parse_rules.specs.Bodies.{body_view}
+use Rattle.protobuf_parse_rules.specs.BodyViews.{body_view}
 use Rattle.protobuf_parse_rules.specs.KnownNames.{named_view}
 use Rattle.protobuf_parse_rules.specs.declared.runtimes.Declared.{Declared}
 use Rattle.protobuf_parse_rules.proofs.Declaring.{declared_told}

@@ -1,6 +1,6 @@
 use Rattle.std.proofs.Common.{[], map, sym, ◌∙◌}
 use Rattle.std.proofs.lemmas.Result.{IfOk-weaker}
-use Rattle.protobuf_parse_rules.specs.Bodies.{body_view}
+use Rattle.protobuf_parse_rules.specs.BodyViews.{body_view}
 use Rattle.protobuf_parse_rules.proofs.Alone.{told_alone}
 use Rattle.protobuf_parse_rules.proofs.walk.violations_by_body.Goals as goal
 

@@ -1,5 +1,6 @@
 use Rattle.std.proofs.Common.{[], ◌++◌, List, ℕ, map, take, sym, ap, ◌∙◌, subst}
-use Rattle.protobuf_parse_rules.specs.Bodies.{BodyParts, body_view}
+use Rattle.protobuf_parse_rules.specs.Bodies.{BodyParts}
+use Rattle.protobuf_parse_rules.specs.BodyViews.{body_view}
 use Rattle.protobuf_parse_rules.specs.ClaimsKept.{Checks, breaches_wanted}
 use Rattle.protobuf_parse_rules.specs.Rules.{violation_view}
 use Rattle.protobuf_parse_rules.proofs.Claiming.{nothing_known}

@@ -1,6 +1,7 @@
 use Rattle.std.proofs.Common.{List, map, take}
 use Rattle.protobuf_parse_rules.specs.KnownTables.{Knows}
-use Rattle.protobuf_parse_rules.specs.Bodies.{BodyParts, body_view}
+use Rattle.protobuf_parse_rules.specs.Bodies.{BodyParts}
+use Rattle.protobuf_parse_rules.specs.BodyViews.{body_view}
 use Rattle.protobuf_parse_rules.specs.ClaimsKept.{Checks}
 use Rattle.protobuf_parse_rules.proofs.walk.violations_in.Given as goal
 

@@ -1,7 +1,8 @@
 use Rattle.std.proofs.Common.{◌≡◌, List, map, take}
 use Rattle.std.specs.List.{flat_map}
 use Rattle.protobuf_parse_rules.specs.KnownTables.{Knows}
-use Rattle.protobuf_parse_rules.specs.Bodies.{BodyParts, body_view}
+use Rattle.protobuf_parse_rules.specs.Bodies.{BodyParts}
+use Rattle.protobuf_parse_rules.specs.BodyViews.{body_view}
 use Rattle.protobuf_parse_rules.specs.Rules.{breaches_told}
 use Rattle.protobuf_parse_rules.specs.Violations.{breaches_inside}
 use Rattle.protobuf_parse_rules.proofs.walk.violations_inside.Given as goal

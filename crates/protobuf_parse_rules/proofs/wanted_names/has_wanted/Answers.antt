@@ -1,7 +1,8 @@
 use Rattle.std.proofs.Common.{◌≡◌, ◌++◌, List, ℕ, ap, sym, ◌∙◌, ◌||◌, true, false}
 use Rattle.std.specs.List.{list_any}
 use Rattle.std.proofs.lemmas.Result.{IfOk-weaker}
-use Rattle.protobuf_parse_rules.specs.Bodies.{BodyParts, body_view}
+use Rattle.protobuf_parse_rules.specs.Bodies.{BodyParts}
+use Rattle.protobuf_parse_rules.specs.BodyViews.{body_view}
 use Rattle.protobuf_parse_rules.specs.Keys.{other_keys, packages_at}
 use Rattle.protobuf_parse_rules.specs.Wanted.{has_key, is_wanted}
 use Rattle.protobuf_parse_rules.proofs.WantedNames.{any_wanted}

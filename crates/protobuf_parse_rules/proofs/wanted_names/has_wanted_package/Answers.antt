@@ -1,6 +1,6 @@
 use Rattle.std.proofs.Common.{List, ℕ, ap, sym, ◌∙◌, map}
 use Rattle.std.specs.List.{list_any}
-use Rattle.protobuf_parse_rules.specs.Bodies.{body_view}
+use Rattle.protobuf_parse_rules.specs.BodyViews.{body_view}
 use Rattle.protobuf_parse_rules.specs.Keys.{name_key, packages_at}
 use Rattle.protobuf_parse_rules.specs.KnownNames.{named_view}
 use Rattle.protobuf_parse_rules.specs.Wanted.{has_key}

@@ -1,7 +1,7 @@
 use Rattle.std.proofs.Common.{map, ap, sym, ◌∙◌, arith}
 use Rattle.std.proofs.lemmas.Bool.Decides.{nat_tests}
 use Rattle.std.proofs.lemmas.List.{nil_from_length}
-use Rattle.protobuf_parse_rules.specs.Bodies.{body_view}
+use Rattle.protobuf_parse_rules.specs.BodyViews.{body_view}
 use Rattle.protobuf_parse_rules.specs.KnownNames.{named_view}
 use Rattle.protobuf_parse_rules.proofs.WantedNames.{none_named}
 use Rattle.protobuf_parse_rules.proofs.wanted_names.wanted_names.Goals as goal

@@ -1,7 +1,8 @@
 use Rattle.std.proofs.Common.{◌∙◌, ◌++◌, List, ap, flat_map, map, string_bytes}
 use Rattle.std.proofs.lemmas.Result.{on_ok_weaker}
 use Rattle.protobuf_parse_base.specs.DeclaredNames.{name_bytes}
-use Rattle.protobuf_parse_model.specs.Descriptors.{Text, message_parts, message_view}
+use Rattle.protobuf_parse_model.specs.Descriptors.{Text, message_view}
+use Rattle.protobuf_parse_model.specs.MessageParts.{message_parts}
 use Rattle.protobuf_parse_model.specs.declared.descriptor.DescriptorProto.{DescriptorProto}
 use Rattle.protobuf_parse_model.specs.declared.descriptor.DescriptorProto.{out-DescriptorProto}
 use Rattle.protobuf_parse_set_rules.specs.Breaches.{SetBreach}

@@ -1,4 +1,5 @@
-use Rattle.protobuf_parse_rules.specs.Bodies.{content_view, extension_ranges}
+use Rattle.protobuf_parse_rules.specs.Bodies.{extension_ranges}
+use Rattle.protobuf_parse_rules.specs.BodyViews.{content_view}
 use Rattle.protobuf_parse_rules.specs.Ranges.{in_range}
 use Rattle.protobuf_parse_rules.proofs.bars.Bars.keeps.Goals as goal
 

@@ -1,4 +1,5 @@
-use Rattle.protobuf_parse_rules.specs.Bodies.{content_view, reserved_ranges}
+use Rattle.protobuf_parse_rules.specs.Bodies.{reserved_ranges}
+use Rattle.protobuf_parse_rules.specs.BodyViews.{content_view}
 use Rattle.protobuf_parse_rules.specs.Ranges.{in_range}
 use Rattle.protobuf_parse_rules.proofs.bars.Bars.reserves.Goals as goal
 

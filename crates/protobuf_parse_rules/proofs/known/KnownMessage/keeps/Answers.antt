@@ -1,4 +1,4 @@
-use Rattle.protobuf_parse_rules.specs.Bodies.{content_view}
+use Rattle.protobuf_parse_rules.specs.BodyViews.{content_view}
 use Rattle.protobuf_parse_rules.specs.Ranges.{in_range, ranges_for_extensions}
 use Rattle.protobuf_parse_rules.proofs.known.KnownMessage.keeps.Goals as goal
 

@@ -1,0 +1,4 @@
+pub mod ByPath
+pub mod Handed
+pub mod Answers
+pub mod Copies

@@ -1,0 +1,11 @@
+pub mod Standing
+pub mod Faultless
+pub mod Reading
+pub mod Walking
+pub mod Listing
+pub mod Enums
+pub mod Fields
+pub mod Oneofs
+pub mod Messages
+pub mod Files
+pub mod LeftOut

@@ -1,0 +1,14 @@
+use Rattle.std.proofs.Common.{sym, append-nil}
+use Rattle.std.specs.Prelude.{codes}
+use Rattle.protobuf_parse_model.specs.Descriptors.{reserved_range_view}
+use Rattle.protobuf_parse_proto_text.specs.ProtoText.{numbers_line}
+use Rattle.protobuf_parse_proto_text.proofs.Growing.{grown_all}
+use Rattle.protobuf_parse_proto_text.proofs.messages.put_reserved_ranges.Goals as goal
+
+pub loop-range-init : goal.loop-range-init
+loop-range-init c = sym (append-nil _)
+
+pub returns : goal.returns
+returns c =
+    grown_all (numbers_line c.args.level (codes "reserved ")) reserved_range_view
+    _ _ _ _ c.loop-range-test.false c.loop-range.invariant
