@@ -1,8 +1,8 @@
 #!/usr/bin/env python3
 """Makes a release of what the gate passed: docs/release.md.
 
-    scripts/release.py --gate LOG [--out DIR]
-    scripts/release.py --gate LOG --without-license [--binary FILE --libraries DIR]
+    scripts/release/release.py --gate LOG [--out DIR]
+    scripts/release/release.py --gate LOG --without-license [--binary FILE --libraries DIR]
 
 Run it at the top of a checkout in which `rt ci` passed, with its output in LOG. It makes in the
 folder release/ an archive and a Debian package of the command, an archive of the proved

@@ -1,7 +1,7 @@
 #!/usr/bin/env python3
 """Measures the built programs and prints the tables of docs/PERFORMANCE.md.
 
-    scripts/performance.py [--best N] [--no-instructions] [--cli COMMAND] [TABLE..]
+    scripts/measure/performance.py [--best N] [--no-instructions] [--cli COMMAND] [TABLE..]
 
 Run it at the top of the repository, once `rt run` has built the programs in
 crates/protobuf_parse_program and crates/protobuf_parse_bench, with nothing else on the machine.
@@ -20,11 +20,11 @@ import sys
 import tempfile
 from pathlib import Path
 
-TOP = Path(__file__).resolve().parent.parent
+TOP = Path(__file__).resolve().parents[2]
 PROGRAM = TOP / "crates/protobuf_parse_program/out/protobuf_parse_program"
 CLI = TOP / "crates/protobuf_parse_cli/out/protobuf_parse_cli"
 BENCH = TOP / "crates/protobuf_parse_bench/out/protobuf_parse_bench"
-ATTACK = TOP / "scripts/attack.py"
+ATTACK = TOP / "scripts/measure/attack.py"
 SCALARS = (
     "int32 int64 uint32 uint64 sint32 sint64 fixed32 sfixed32 fixed64 sfixed64 bool string bytes "
     "float double"

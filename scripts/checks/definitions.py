@@ -1,7 +1,7 @@
 #!/usr/bin/env python3
 """Which definitions the clauses of public functions rest on, and how many lines they have.
 
-Run it at the top of the repository: scripts/definitions.py prints each file of specs/ that has
+Run it at the top of the repository: scripts/checks/definitions.py prints each file of specs/ that has
 such a definition, with the lines of these definitions and of the whole file and the first sentence
 of its comment, and the sums, by crates and of all. With --unused it lists the definitions of specs/ that no public clause rests on. They
 stand in files of their own, which begin with the line MARK, each definition that a public clause

@@ -1,7 +1,7 @@
 #!/usr/bin/env python3
 """Has protoc make code of our descriptor sets in seven languages, beside that of its own sets.
 
-    scripts/generators.py [--program PROGRAM]
+    scripts/beside_protoc/generators.py [--program PROGRAM]
 
 Schemas are one for each file of Google that the library brings, which has a field of each message
 and enum of it, two more, and those of crates/protobuf_parse_cli/data. Of each, PROGRAM (the
@@ -22,7 +22,7 @@ from pathlib import Path
 
 from google.protobuf import descriptor_pb2, descriptor_pool, message_factory
 
-TOP = Path(__file__).resolve().parent.parent
+TOP = Path(__file__).resolve().parents[2]
 KINDS = ["python", "cpp", "java", "csharp", "objc", "php", "ruby"]
 GOOGLES = """
 any api compiler/plugin descriptor duration empty field_mask source_context struct timestamp type

@@ -1,7 +1,7 @@
 #!/usr/bin/env python3
 """Refuses memory to the cases and to the program, one request at a time: docs/testing.md.
 
-    scripts/memory_refused.py [--most N] [--jobs J] [--cases PROGRAM] [--program PROGRAM]
+    scripts/checks/memory_refused.py [--most N] [--jobs J] [--cases PROGRAM] [--program PROGRAM]
         [--command PROGRAM] [NAME..]
 
 For each row of the files of cases (or of those that are named), and for the program and the command
@@ -24,7 +24,7 @@ import subprocess
 import sys
 import tempfile
 
-TOP = os.path.normpath(os.path.join(os.path.dirname(os.path.abspath(__file__)), ".."))
+TOP = os.path.normpath(os.path.join(os.path.dirname(os.path.abspath(__file__)), "../.."))
 DATA = f"{TOP}/crates/protobuf_parse_cases/data"
 WELL = "one.cases: 1 of 1\n"
 MEMORY = "out of memory"
@@ -294,7 +294,7 @@ def main():
     rows = whole = refusals = faults = 0
     with tempfile.TemporaryDirectory() as folder:
         library = f"{folder}/refuse.so"
-        source = f"{TOP}/scripts/refuse.c"
+        source = f"{TOP}/scripts/checks/refuse.c"
         subprocess.run(["cc", "-O1", "-shared", "-fPIC", "-o", library, source], check=True)
         with concurrent.futures.ThreadPoolExecutor(options.jobs) as pool:
             started = [

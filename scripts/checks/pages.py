@@ -1,7 +1,7 @@
 #!/usr/bin/env python3
 """Checks the pages: links, names of files and scripts, counts of words, and commands.
 
-    scripts/pages.py [--run]
+    scripts/checks/pages.py [--run]
 
 Run it at the top of the repository. Each link leads to a file, each path of the repository that a
 page names is there, and each definition, function and case of docs/HOUSE.md; no page is longer than

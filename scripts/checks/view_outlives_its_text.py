@@ -1,7 +1,7 @@
 #!/usr/bin/env python3
 """Shows that no view outlives its text: docs/base.md.
 
-    scripts/view_outlives_its_text.py
+    scripts/checks/view_outlives_its_text.py
 
 To a copy of crates/protobuf_parse_base it adds functions that look at views of texts that are gone,
 and beside each the same with a text that is still there, and has `rt check` read them, which takes
@@ -15,7 +15,7 @@ import subprocess
 import sys
 import tempfile
 
-TOP = os.path.normpath(os.path.join(os.path.dirname(os.path.abspath(__file__)), ".."))
+TOP = os.path.normpath(os.path.join(os.path.dirname(os.path.abspath(__file__)), "../.."))
 CRATE = "crates/protobuf_parse_base"
 
 # What owns a text, a view of it, and what is asked of the view.

@@ -1,7 +1,7 @@
 #!/usr/bin/env python3
 """Writes pages of the API.
 
-    scripts/api.py FOLDER
+    scripts/release/api.py FOLDER
 
 From the sources of the libraries that crates.txt names it makes a page for each crate and each
 item that callers can name: its signature, comment, fields and methods, and its clauses, in which

@@ -1,7 +1,7 @@
 #!/usr/bin/env python3
 """Compares the source info of texts with that of protoc: docs/source_info.md.
 
-    scripts/compare_source_info.py [--program PROGRAM] [--seed N] [--count N] [FILE..]
+    scripts/beside_protoc/compare_source_info.py [--program PROGRAM] [--seed N] [--count N] [FILE..]
 
 It takes the files that it is given, or so many random schemas (random_schemas.py), whose folder is
 the include, and compares the source info in the sets that protoc and PROGRAM, which is the command,

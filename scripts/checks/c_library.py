@@ -1,7 +1,7 @@
 #!/usr/bin/env python3
 """Builds the C library over what the gate proved, and shows that it does what docs/c.md says.
 
-    scripts/c_library.py [--keep FOLDER] [--program COMMAND]
+    scripts/checks/c_library.py [--keep FOLDER] [--program COMMAND]
 
 Run it at the top of a checkout in which `rt ci` passed. It proves and compiles the crate
 protobuf_parse_c over the libraries in crates/*/out/rlib, makes an archive and a shared library,
@@ -21,7 +21,7 @@ import tempfile
 import threading
 from pathlib import Path
 
-TOP = Path(__file__).resolve().parent.parent
+TOP = Path(__file__).resolve().parents[2]
 DATA = TOP / "crates/protobuf_parse_cli/data"
 COMMAND = TOP / "crates/protobuf_parse_cli/out/protobuf_parse_cli"
 NAME = "protobuf_parse_c"

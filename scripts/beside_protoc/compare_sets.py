@@ -1,7 +1,7 @@
 #!/usr/bin/env python3
 """Compares descriptor sets with those of protoc, and has others read them: docs/protoc.md.
 
-    scripts/compare_sets.py [--program PROGRAM] [--source_info] FOLDER [INCLUDE..]
+    scripts/beside_protoc/compare_sets.py [--program PROGRAM] [--source_info] FOLDER [INCLUDE..]
 
 Of each .proto file below FOLDER that protoc accepts, with FOLDER and the others as includes, it
 takes the set with all imports as protoc writes it, and as PROGRAM does, which is the command. It
@@ -22,7 +22,7 @@ import tempfile
 
 from google.protobuf import descriptor_pb2, descriptor_pool
 
-TOP = os.path.normpath(os.path.join(os.path.dirname(os.path.abspath(__file__)), ".."))
+TOP = os.path.normpath(os.path.join(os.path.dirname(os.path.abspath(__file__)), "../.."))
 
 
 def schemas(folder):

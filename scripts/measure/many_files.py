@@ -1,7 +1,7 @@
 #!/usr/bin/env python3
 """What many files take: one process over all, four over a quarter each, and a farm.
 
-Run it at the top of the repository: scripts/many_files.py [--program FILE] [--files N]. It makes
+Run it at the top of the repository: scripts/measure/many_files.py [--program FILE] [--files N]. It makes
 files in libraries of fifty, in twenty layers; each file imports some of its own library and of two
 of the layer below. It measures the seconds and the memory of one process, with protoc's beside it
 where that is there, of four at once, and of one for each library, which is what a build engine

@@ -1,9 +1,9 @@
 #!/usr/bin/env python3
 """Compares where protoc and the command tell of mistakes.
 
-    scripts/places_beside_protoc.py [--cases FILE] [--program PROGRAM]
+    scripts/beside_protoc/places_beside_protoc.py [--cases FILE] [--program PROGRAM]
 
-For each row of scripts/places.cases both check f.proto; it prints the rows where the two do not tell
+For each row of scripts/beside_protoc/places.cases both check f.proto; it prints the rows where the two do not tell
 of the same line, and at the end how many rows there are of each kind. The program is
 crates/protobuf_parse_cli/out/protobuf_parse_cli, as `rt run` builds it there.
 """

@@ -1,11 +1,11 @@
 #!/usr/bin/env python3
 """Holds what the command tells of mistakes against what protoc says.
 
-    scripts/mistakes_beside_protoc.py [--program PROGRAM] [--one N] [--some N] [--behind N] [--seed S]
+    scripts/beside_protoc/mistakes_beside_protoc.py [--program PROGRAM] [--one N] [--some N] [--behind N] [--seed S]
         [--show KIND] [--most N]
 
 Makes N files with one mistake each (`--one`), N with two to five (`--some`) and N with one mistake
-in a file that is imported (`--behind`), of the kinds of scripts/mistaken.py, checks each with protoc
+in a file that is imported (`--behind`), of the kinds of scripts/beside_protoc/mistaken.py, checks each with protoc
 and with the command, and prints for each kind how often the verdicts differ, how often protoc's
 first line is among ours, and how many of its lines are. Files and lines are compared, no texts.
 Of what protoc tells without a line, any line of the file will do; of what it tells elsewhere than

@@ -8,7 +8,7 @@ import os
 import re
 import sys
 
-CASES = os.path.join(os.path.dirname(__file__), "../crates/protobuf_parse_cases/data/*.cases")
+CASES = os.path.join(os.path.dirname(__file__), "../../crates/protobuf_parse_cases/data/*.cases")
 VERBS = ("list", "parse", "customs", "imports", "package")
 
 

@@ -2,7 +2,7 @@
    memory refused, until a run meets no refusal. To the descriptor REFUSE_TO it writes for each run a line
    "N STATUS MET LENGTH", and then so many bytes that the run has written. N goes on from REFUSE_FROM by
    REFUSE_STEP, and ends with the first one where REFUSE_ONCE is set; REFUSE_COUNT is set where a single run
-   is wanted that refuses nothing: then MET is the number of requests. scripts/memory_refused.py calls it. */
+   is wanted that refuses nothing: then MET is the number of requests. scripts/checks/memory_refused.py calls it. */
 #define _GNU_SOURCE
 #include <dlfcn.h>
 #include <stdio.h>

@@ -1,7 +1,7 @@
 #!/usr/bin/env python3
 """Measures programs on real schemas: those that packages of Debian 12 have.
 
-    scripts/real_files.py [--each] [--sample N] FOLDER [PROGRAM..]
+    scripts/measure/real_files.py [--each] [--sample N] FOLDER [PROGRAM..]
 
 It makes the schemas, where FOLDER/list.txt isn't there yet: it fetches the packages with `apt-get
 download`, installs nothing, looks for an include of each .proto file, copies the file and all that

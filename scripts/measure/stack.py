@@ -2,7 +2,7 @@
 """How much of the stack the built command takes on texts that nest as deep as they may.
 
     rt run -- --help          (in crates/protobuf_parse_cli: builds out/protobuf_parse_cli)
-    scripts/stack.py
+    scripts/measure/stack.py
 
 Each text is given to the command with less and less stack, in steps of 16 KB, until it is killed.
 The status is 1 where a text takes more than is promised, or is not accepted.

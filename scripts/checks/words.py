@@ -1,9 +1,9 @@
 #!/usr/bin/env python3
 """The words of the house: their page, and where the code uses one that has another in its place.
 
-    scripts/words.py [--page]
+    scripts/checks/words.py [--page]
 
-Run it at the top of the repository. scripts/words.lines has the words: a line `# title` begins a
+Run it at the top of the repository. scripts/checks/words.lines has the words: a line `# title` begins a
 section, and each other line has a word, where others have another for it that, and what it is, with
 ` | ` between them; the last section has words that are not to stand in the code. With --page it
 prints the page, which is docs/words.md. Without, each place of such a word is printed, each word
@@ -18,15 +18,15 @@ from pathlib import Path
 HEAD = """# Words
 
 What these pages, the definitions and the code call things, beside the words of the field; in parentheses what others
-call them. `scripts/words.py --page` prints this page.
+call them. `scripts/checks/words.py --page` prints this page.
 """
-LAST = "Code and definitions use the words above. `scripts/words.py` tells where these stand in their place:\n"
+LAST = "Code and definitions use the words above. `scripts/checks/words.py` tells where these stand in their place:\n"
 
 
 def sections():
     """The title of each section with its rows: a word, what others call it, and what it is."""
     found = []
-    for line in Path("scripts/words.lines").read_text().splitlines():
+    for line in Path("scripts/checks/words.lines").read_text().splitlines():
         if line.startswith("# "):
             found.append((line[2:], []))
         else:
@@ -67,9 +67,9 @@ def main():
         print(page(), end="")
         return 0
     table = sections()
-    wrong = [f"scripts/words.lines: {word} stands twice" for word in twice(table)]
+    wrong = [f"scripts/checks/words.lines: {word} stands twice" for word in twice(table)]
     if Path("docs/words.md").read_text() != page():
-        wrong.append("docs/words.md: another than scripts/words.py --page prints")
+        wrong.append("docs/words.md: another than scripts/checks/words.py --page prints")
     left_out = [name for word, _, _ in table[-1][1] for name in re.findall(r"`([\w:]+)`", word)]
     words = re.compile(r"(?<![\w:])(?:" + "|".join(map(re.escape, left_out)) + r")(?!\w)")
     for path in sorted(Path("crates").rglob("*")):

@@ -1,7 +1,7 @@
 #!/usr/bin/env python3
 """Tries the command on random small sets of files in which much is wrong: docs/testing.md.
 
-    scripts/random_checks.py --command PROGRAM [--count N] [--seed S] [--only I] [--jobs N]
+    scripts/checks/random_checks.py --command PROGRAM [--count N] [--seed S] [--only I] [--jobs N]
 
 The files of a set import one another, in circles too and by long chains; some are missing, can't be
 read, are no UTF-8 or have no tree; names are declared more than once or nowhere, options have wrong

@@ -1,7 +1,7 @@
 #!/usr/bin/env python3
 """Tries the command on files, pipes, links, modes and outputs that fail: docs/testing.md.
 
-    scripts/command_files.py [--program PROGRAM] [--quick] [NAME..]
+    scripts/checks/command_files.py [--program PROGRAM] [--quick] [NAME..]
 
 Without --program it has `rt` build the command first. Each try stands in a folder of its own; the
 status, standard output and standard error are compared as a whole, and so is what lies in the
@@ -26,7 +26,7 @@ import threading
 import time
 import traceback
 
-TOP = os.path.normpath(os.path.join(os.path.dirname(os.path.abspath(__file__)), ".."))
+TOP = os.path.normpath(os.path.join(os.path.dirname(os.path.abspath(__file__)), "../.."))
 CRATE = f"{TOP}/crates/protobuf_parse_cli"
 TEXT = b'syntax = "proto3";\n\npackage shop;\n\nmessage Item {\n  string title = 1;\n}\n'
 # What `protoc -o` of 3.21.12 writes for it as item.proto.

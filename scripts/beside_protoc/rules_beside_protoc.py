@@ -1,9 +1,9 @@
 #!/usr/bin/env python3
 """Compares what protoc says of mistakes with the violations that are told of them.
 
-    scripts/rules_beside_protoc.py [--cases FILE] [--program PROGRAM] [FOLDER]
+    scripts/beside_protoc/rules_beside_protoc.py [--cases FILE] [--program PROGRAM] [FOLDER]
 
-For each schema below FOLDER, or else each row of scripts/mistakes.cases, it prints protoc's first
+For each schema below FOLDER, or else each row of scripts/beside_protoc/mistakes.cases, it prints protoc's first
 message and what the program of the cases answers to `violations`, and at the end how many protoc
 refuses and how many of these a run refuses or a rule tells of. Of a schema that protoc accepts no
 error may be told: such lines are printed with `MORE`, those of which protoc alone says something

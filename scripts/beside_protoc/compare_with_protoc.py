@@ -1,7 +1,7 @@
 #!/usr/bin/env python3
 """Lists schemas with protoc and with the program, and prints where they differ: docs/protoc.md.
 
-    scripts/compare_with_protoc.py [--program PROGRAM] FOLDER
+    scripts/beside_protoc/compare_with_protoc.py [--program PROGRAM] FOLDER
 
 It goes through each .proto file below FOLDER, which is the include of both, writes what protoc's
 descriptor says as a listing, and compares it with that of parse-and-typecheck, line for line. It
@@ -17,7 +17,7 @@ import tempfile
 
 from google.protobuf import descriptor_pb2
 
-TOP = os.path.normpath(os.path.join(os.path.dirname(os.path.abspath(__file__)), ".."))
+TOP = os.path.normpath(os.path.join(os.path.dirname(os.path.abspath(__file__)), "../.."))
 LABELS = {1: "optional", 2: "required", 3: "repeated"}
 NAMED = (10, 11, 14)  # group, message, enum: the kinds of a field with the name of a type
 

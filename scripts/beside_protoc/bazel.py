@@ -1,14 +1,14 @@
 #!/usr/bin/env python3
 """Has Bazel and ninja build a tree of schemas with protoc and with the command: docs/build_engines.md.
 
-    scripts/bazel.py [--program PROGRAM] [--keep FOLDER]
+    scripts/beside_protoc/bazel.py [--program PROGRAM] [--keep FOLDER]
 
 It makes thirty proto_library targets in a new folder, with dependencies, exports and other prefixes
 of imports, and has `bazel build` make their descriptor sets, once with protoc as the proto compiler
 and once with PROGRAM, which is the command: the sets must have the same bytes. Then one file doesn't
 parse, one names what nothing declares, and one imports what its target doesn't depend on, and both
 must refuse the same targets. After a change of one file just the targets that see it may be built
-again. The command lines that Bazel makes are kept in scripts/bazel.lines, and run by both without it,
+again. The command lines that Bazel makes are kept in scripts/beside_protoc/bazel.lines, and run by both without it,
 which is all that is done where Bazel isn't there. Last the same files are built by ninja, if it is
 there, with --dependency_out. The status is 1 where something is not as it must be."""
 
@@ -21,10 +21,10 @@ import sys
 import tempfile
 from pathlib import Path
 
-TOP = Path(__file__).resolve().parent.parent
+TOP = Path(__file__).resolve().parents[2]
 PROGRAM = TOP / "crates/protobuf_parse_cli/out/protobuf_parse_cli"
 # The command lines of the last build by Bazel 4.2.
-LINES = TOP / "scripts/bazel.lines"
+LINES = TOP / "scripts/beside_protoc/bazel.lines"
 
 
 class Library:

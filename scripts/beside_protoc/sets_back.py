@@ -1,7 +1,7 @@
 #!/usr/bin/env python3
 """Has the command read the sets that others write: docs/testing.md.
 
-    scripts/sets_back.py [--program PROGRAM] [--damaged N] [--seed S] LIST
+    scripts/beside_protoc/sets_back.py [--program PROGRAM] [--damaged N] [--seed S] LIST
 
 Each line of LIST is an include, a tab, and a file in it (real_files.py makes one). Of each file that
 protoc accepts, protoc writes the set with all imports and source info, and Python's package the same
