@@ -1,0 +1,7 @@
+pub mod Answers
+pub mod Fields
+pub mod Sorts
+pub mod Declarations
+pub mod Decoding
+pub mod Parts
+pub mod Views
