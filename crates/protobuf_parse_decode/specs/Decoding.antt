@@ -137,10 +137,10 @@ meaning_of inner (Some f) r =
 
 -- what each record means, in order
 unfoldable pub fields_of : Inner → FieldsByNumber → List WireRecord → Answer Fields
-fields_of inner numbers [] = Ok no_fields
-fields_of inner numbers (r ∷ rs) = do
-  meaning ← meaning_of inner (numbers r.number) r
-  others ← fields_of inner numbers rs
+fields_of inner declared [] = Ok no_fields
+fields_of inner declared (r ∷ rs) = do
+  meaning ← meaning_of inner (declared r.number) r
+  others ← fields_of inner declared rs
   Ok (field r.number r.whole.bytes meaning others)
 
 -- A message of that name, of at most so many levels of messages and groups, itself one. It has to
@@ -148,9 +148,9 @@ fields_of inner numbers (r ∷ rs) = do
 unfoldable pub message_within : Enter → (levels : ℕ) → Inner
 message_within enter zero at name s = fault at kind.TooDeep
 message_within enter (suc levels) at name s = do
-  numbers ← found at (enter name)
+  declared ← found at (enter name)
   rs ← on_wire (records_in s)
-  fields_of (message_within enter levels) numbers rs
+  fields_of (message_within enter levels) declared rs
 
 -- what the bytes of a message mean, by the files that declare it
 abbrev pub decoded_message : List FileDescriptor → (name : Text) → List ℕ → Answer Fields

@@ -5,6 +5,7 @@ ghost use Rattle.std.specs.Option.{option_copied};
 ghost use Rattle.protobuf_parse_model.specs.Descriptors.{field_view, file_view};
 ghost use Rattle.protobuf_parse_decode.specs.Answers.{Gives, found};
 ghost use Rattle.protobuf_parse_decode.specs.Declarations as spec;
+ghost use Rattle.protobuf_parse_decode.specs.Sorts.{sort_of};
 ghost use Rattle.protobuf_parse_decode.specs.Views.{declared_view};
 
 use crate::fault::{DecodeError, DecodeFaultKind, fault};
@@ -22,6 +23,7 @@ pub struct Declared<'i> {
 }
 
 /// The name of a message that the files declare. `at` is where the record stands that holds one.
+#[tactic(auto, unfolding(crate::specs::Declarations::entered))]
 pub fn message_name<'n>(
     index: &Index<'_>,
     at: usize,
@@ -30,44 +32,90 @@ pub fn message_name<'n>(
     ensures { Gives (λ n. spec.declared_in (map file_view index.now) n.now) result
         (found at (spec.entered (map file_view index.now) (option_copied name.entry))) }
 {
-    match name {
-        Some(name) if index.message(name).is_some() => Ok(name),
-        _ => Err(fault(at, DecodeFaultKind::NoSuchMessage)),
+    let Some(name) = name else {
+        return Err(fault(at, DecodeFaultKind::NoSuchMessage));
+    };
+    match index.message(name) {
+        Some(_) => Ok(name),
+        None => Err(fault(at, DecodeFaultKind::NoSuchMessage)),
     }
 }
 
 /// The declaration of the message's field, or extension, with that number.
+#[tactic(auto, unfolding(crate::specs::Declarations::declared_in))]
 pub fn declaration_of<'i>(index: &Index<'i>, message: &str, number: u32) -> Option<Declared<'i>>
     requires { number < 2 ^ 31 }
     ensures { option_map declared_view result
         ≡ spec.declared_in (map file_view index.now) message.now number }
 {
     let number = number as i32;
-    let field = index.field(message, number)?;
-    Some(Declared {
-        field_type: field.type_,
-        utf8: field.type_ == FieldType::String && stands_in_proto3(index, message, number, field),
-        repeated: field.label == Label::Repeated,
-        type_name: field.type_name.as_deref(),
-    })
+    match index.field(message, number) {
+        None => None,
+        Some(field) => Some(Declared {
+            field_type: field.type_,
+            utf8: has_to_be_utf8(index, message, number, field),
+            repeated: is_repeated(field.label),
+            type_name: field.type_name.as_deref(),
+        }),
+    }
 }
 
-/// Whether a file with the syntax `proto3` declares the field of the message with that number.
-fn stands_in_proto3(
+fn is_repeated(label: Label) -> bool
+    ensures { result ≡ spec.is_repeated label }
+{
+    label == Label::Repeated
+}
+
+/// Whether the field is a string that a file with the syntax `proto3` declares.
+#[tactic(auto, unfolding(crate::specs::Declarations::stands_in_proto3))]
+fn has_to_be_utf8(
     index: &Index<'_>,
     message: &str,
     number: i32,
     field: &FieldDescriptorProto,
 ) -> bool
-    ensures { result
-        ≡ spec.stands_in_proto3 (map file_view index.now) message.now number (field_view field.now) }
+    ensures { sort_of result field.now.type_ ≡ sort_of
+        (spec.stands_in_proto3 (map file_view index.now) message.now number (field_view field.now))
+        field.now.type_ }
 {
-    let path = match field.extendee {
-        None => index.message(message).map(|message| message.file),
-        Some(_) => index.extension(message, number).map(|extension| extension.file),
-    };
+    match field.type_ {
+        FieldType::String => path_in_proto3(index, path_declaring(index, message, number, field)),
+        _ => false,
+    }
+}
+
+/// The path of the file that declares the field of the message with that number.
+fn path_declaring<'i>(
+    index: &'i Index<'_>,
+    message: &str,
+    number: i32,
+    field: &FieldDescriptorProto,
+) -> Option<&'i str>
+    ensures { option_copied result ≡ spec.path_declaring (map file_view index.now) message.now
+        number (field_view field.now).extendee }
+{
+    match &field.extendee {
+        None => match index.message(message) {
+            Some(message) => Some(message.file),
+            None => None,
+        },
+        Some(_) => match index.extension(message, number) {
+            Some(extension) => Some(extension.file),
+            None => None,
+        },
+    }
+}
+
+/// Whether a file is known by that path and has the syntax `proto3`.
+fn path_in_proto3(index: &Index<'_>, path: Option<&str>) -> bool
+    ensures { result
+        ≡ spec.path_in_proto3 (map file_view index.now) (option_copied path.entry) }
+{
     match path {
-        Some(path) => index.file(path).is_some_and(is_proto3),
+        Some(path) => match index.file(path) {
+            Some(file) => is_proto3(file),
+            None => false,
+        },
         None => false,
     }
 }

@@ -9,7 +9,8 @@ ghost use Rattle.protobuf_parse_decode.specs.Declarations.{declared_in, entered}
 ghost use Rattle.protobuf_parse_decode.specs.Decoding as spec;
 ghost use Rattle.protobuf_parse_decode.specs.Decoding.{decoded_message, message_within};
 ghost use Rattle.protobuf_parse_decode.specs.Fields.{one_value};
-ghost use Rattle.protobuf_parse_decode.specs.Parts.{numbers_of_type, says_of, words_of};
+ghost use Rattle.protobuf_parse_decode.specs.Parts.{HaveSmallNumbers, numbers_meant, says_of};
+ghost use Rattle.protobuf_parse_decode.specs.Parts.{words_of_type};
 ghost use Rattle.protobuf_parse_decode.specs.Sorts.{sort_of};
 ghost use Rattle.protobuf_parse_decode.specs.Views.{declared_view, fields_view, meaning_view};
 ghost use Rattle.protobuf_parse_decode.specs.Views.{value_view, word_view};
@@ -97,6 +98,7 @@ fn fields_of<'a>(
     message: &str,
     records: &[Record<'a>],
 ) -> Result<Vec<DecodedField<'a>>, DecodeError>
+    requires { HaveSmallNumbers (map record_view records.now) }
     ensures { Gives (λ v. fields_view v.items) result
         (spec.fields_of (message_within (entered (map file_view index.now)) levels)
         (declared_in (map file_view index.now) message.now) (map record_view records.now)) }
@@ -122,7 +124,7 @@ fn meaning_of<'a>(
     message: &str,
     item: Record<'a>,
 ) -> Result<Meaning<'a>, DecodeError>
-    requires { item.entry.number < 2 ^ 29 }
+    requires { item.number < 2 ^ 29 }
     ensures { Gives meaning_view result
         (spec.meaning_of (message_within (entered (map file_view index.now)) levels)
         (declared_in (map file_view index.now) message.now item.entry.number)
@@ -167,17 +169,24 @@ fn one<'a>(alloc: Global, value: Value<'a>) -> Result<Meaning<'a>, DecodeError>
     Ok(Meaning::Known(values))
 }
 
+/// A string, which has to be UTF-8 or not.
 fn string_of<'a>(
     alloc: Global,
     utf8: bool,
     payload: Payload<'a>,
 ) -> Result<Meaning<'a>, DecodeError>
-    ensures { Gives meaning_view result
-        (spec.string_in utf8 (payload_view payload.entry)) }
+    ensures { Gives meaning_view result (spec.string_in utf8 (payload_view payload.entry)) }
 {
-    if !utf8 {
-        return bytes_of(alloc, payload);
+    if utf8 {
+        text_of(alloc, payload)
+    } else {
+        bytes_of(alloc, payload)
     }
+}
+
+fn text_of<'a>(alloc: Global, payload: Payload<'a>) -> Result<Meaning<'a>, DecodeError>
+    ensures { Gives meaning_view result (spec.text_in (payload_view payload.entry)) }
+{
     match payload {
         Payload::Delimited(span) => match str::from_utf8(span.bytes) {
             Ok(text) => one(alloc, Value::Text(text)),
@@ -249,9 +258,9 @@ fn numbers_of<'a>(
     repeated: bool,
     payload: Payload<'a>,
 ) -> Result<Meaning<'a>, DecodeError>
-    requires { IsSome (words_of (sort_of false field_type)) }
+    requires { IsSome (words_of_type field_type) }
     ensures { Gives meaning_view result
-        (numbers_of_type (words_of (sort_of false field_type)) repeated
+        (numbers_meant (words_of_type field_type) repeated
         (payload_view payload.entry)) }
 {
     match word_of(field_type) {
@@ -267,9 +276,9 @@ fn words_of<'a>(
     repeated: bool,
     payload: Payload<'a>,
 ) -> Result<Meaning<'a>, DecodeError>
-    requires { IsSome (words_of (sort_of false field_type)) }
+    requires { IsSome (words_of_type field_type) }
     ensures { Gives meaning_view result
-        (spec.numbers_in (word_view expected) (says_of (words_of (sort_of false field_type)))
+        (spec.numbers_in (word_view expected) (says_of (words_of_type field_type))
         repeated (payload_view payload.entry)) }
 {
     match payload {
@@ -297,10 +306,10 @@ fn one_word<'a>(
     found: Word,
     number: u64,
 ) -> Result<Meaning<'a>, DecodeError>
-    requires { IsSome (words_of (sort_of false field_type)) }
+    requires { IsSome (words_of_type field_type) }
     ensures { Gives meaning_view result
         (spec.if_same (spec.same_word (word_view expected) (word_view found))
-        (says_of (words_of (sort_of false field_type)) number)) }
+        (says_of (words_of_type field_type) number)) }
 {
     if expected != found {
         return Ok(Meaning::Unknown);

@@ -2,8 +2,7 @@
 
 ghost use Rattle.std.specs.Prelude.{◌≡◌, ◌%◌, ◌^◌, IsSome, option_map};
 ghost use Rattle.protobuf_parse_wire.specs.Reading.{unzigzag};
-ghost use Rattle.protobuf_parse_decode.specs.Parts.{says_of, value_word, words_of};
-ghost use Rattle.protobuf_parse_decode.specs.Sorts.{sort_of};
+ghost use Rattle.protobuf_parse_decode.specs.Parts.{says_of, value_word, words_of_type};
 ghost use Rattle.protobuf_parse_decode.specs.Views.{value_view, word_view};
 
 use crate::field::Value;
@@ -19,7 +18,7 @@ pub enum Word {
 
 /// How values of the type stand on the wire, if they are numbers or truth values.
 pub fn word_of(field_type: FieldType) -> Option<Word>
-    ensures { option_map word_view result ≡ value_word (words_of (sort_of false field_type)) }
+    ensures { option_map word_view result ≡ value_word (words_of_type field_type) }
 {
     match field_type {
         FieldType::Int32
@@ -38,8 +37,8 @@ pub fn word_of(field_type: FieldType) -> Option<Word>
 
 /// What a number on the wire says of such a type.
 pub fn value_of<'a>(field_type: FieldType, word: u64) -> Value<'a>
-    requires { IsSome (words_of (sort_of false field_type)) }
-    ensures { value_view result ≡ says_of (words_of (sort_of false field_type)) word }
+    requires { IsSome (words_of_type field_type) }
+    ensures { value_view result ≡ says_of (words_of_type field_type) word }
 {
     let number = match field_type {
         FieldType::Int32 | FieldType::Sfixed32 | FieldType::Enum => {

@@ -1,12 +1,11 @@
 //! Packed numbers.
 
-ghost use Rattle.std.specs.Prelude.{◌≡◌, ◌<◌, ◌≤◌, length, IfOk, IsSome};
+ghost use Rattle.std.specs.Prelude.{◌≡◌, ◌+◌, ◌<◌, length, IfOk, IsSome};
 ghost use Rattle.protobuf_parse_records.specs.Views.{span_view};
 ghost use Rattle.protobuf_parse_records.specs.Wire as wire;
 ghost use Rattle.protobuf_parse_decode.specs.Answers.{Gives};
 ghost use Rattle.protobuf_parse_decode.specs.Decoding as spec;
-ghost use Rattle.protobuf_parse_decode.specs.Parts.{says_of, words_of};
-ghost use Rattle.protobuf_parse_decode.specs.Sorts.{sort_of};
+ghost use Rattle.protobuf_parse_decode.specs.Parts.{says_of, words_of_type};
 ghost use Rattle.protobuf_parse_decode.specs.Views.{values_view, word_view};
 
 use crate::fault::DecodeError;
@@ -23,9 +22,9 @@ pub fn packed<'a>(
     word: Word,
     span: Span<'_>,
 ) -> Result<Vec<Value<'a>>, DecodeError>
-    requires { IsSome (words_of (sort_of false field_type)) }
+    requires { IsSome (words_of_type field_type) }
     ensures { Gives (λ v. values_view v.items) result
-        (spec.packed (word_view word) (says_of (words_of (sort_of false field_type)))
+        (spec.packed (word_view word) (says_of (words_of_type field_type))
         (span_view span.entry)) }
 {
     let mut values = Vec::new(alloc);
