@@ -4,3 +4,5 @@ pub mod Packing
 pub mod Telling
 pub mod MessageLevels
 pub mod SmallNumbers
+pub mod Later
+pub mod Joining

@@ -5,6 +5,7 @@ mod declared;
 mod decoder;
 mod fault;
 mod field;
+mod laws;
 mod numbers;
 mod packed;
 #[cfg(test)]
@@ -13,3 +14,4 @@ mod tests;
 pub use decoder::decode;
 pub use fault::{DecodeError, DecodeFault, DecodeFaultKind};
 pub use field::{DecodedField, Meaning, Value};
+pub use laws::{fields_are_the_bytes, messages_join};
