@@ -285,7 +285,13 @@ fn words_of<'a>(
         Payload::Varint(number) => one_word(alloc, field_type, expected, Word::Varint, number),
         Payload::Fixed64(number) => one_word(alloc, field_type, expected, Word::EightBytes, number),
         Payload::Fixed32(number) => {
-            one_word(alloc, field_type, expected, Word::FourBytes, u64::from(number))
+            one_word(
+                alloc,
+                field_type,
+                expected,
+                Word::FourBytes,
+                u64::from(number),
+            )
         }
         Payload::Delimited(span) => {
             if !repeated {

@@ -17,7 +17,7 @@ pub enum DecodeFaultKind {
     /// A `string` that a file with the syntax `proto3` declares is not UTF-8.
     #[error("a string is not UTF-8")]
     NotUtf8,
-    /// A message or a group inside 99 others and the outermost message.
+    /// A message or a group inside 100 others, the outermost one among them.
     #[error("more than 100 messages stand inside one another")]
     TooDeep,
     /// No file declares the message: the one that is asked for, or that of a field.
