@@ -1,5 +1,5 @@
 -- The code's values as those of the definitions, constructor by constructor.
-use Rattle.std.proofs.Common.{◌≡◌, ℕ, List, map, Vec, Global, ap, sym, ◌∙◌}
+use Rattle.std.proofs.Common.{◌≡◌, ℕ, List, Vec, Global, ap, sym, ◌∙◌}
 use Rattle.std.specs.Borrow.{Bor}
 use Rattle.protobuf_parse_decode.specs.declared.field.Meaning.{fold-roll-Meaning}
 use Rattle.protobuf_parse_decode.specs.declared.field.Meaning.TheVariants as meanings

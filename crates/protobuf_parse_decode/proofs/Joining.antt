@@ -1,6 +1,7 @@
 -- The bytes of fields, and messages one behind the other.
-use Rattle.std.proofs.Common.{◌≡◌, ℕ, zero, suc, List, [], ◌∷◌, ◌++◌, length, map, Option, Some, None}
-use Rattle.std.proofs.Common.{Ok, Err, refl, sym, ap, ◌∙◌}
+use Rattle.std.proofs.Common.{◌≡◌, ℕ, zero, suc, List, [], ◌∷◌, ◌++◌, length, map, Option, Some}
+use Rattle.std.proofs.Common.{None}
+use Rattle.std.proofs.Common.{Ok, Err, sym, ap, ◌∙◌}
 use Rattle.std.specs.List.{flat_map}
 use Rattle.protobuf_parse_records.specs.Views.{Extent, WireRecord}
 use Rattle.protobuf_parse_records.specs.Wire.{◌>>=◌}
@@ -15,7 +16,7 @@ use Rattle.protobuf_parse_decode.specs.Decoding.{Inner, fields_of, meaning_of, m
 use Rattle.protobuf_parse_decode.specs.Fields.{Meaning, Fields, no_fields, field}
 use Rattle.protobuf_parse_decode.specs.Laws.{FieldsAreTheBytes, MessagesJoin, bytes_of, join}
 use Rattle.protobuf_parse_decode.proofs.Later.{fields_later, message_later, put_off}
-use Rattle.protobuf_parse_decode.proofs.Steps.{Gave, gave, ok_is}
+use Rattle.protobuf_parse_decode.proofs.Steps.{gave, ok_is}
 
 module _ (inner : Inner) (declared : FieldsByNumber) where
   -- a record's meaning, and what those after it mean

@@ -1,7 +1,7 @@
 -- What bytes mean does not depend on where they start; only the offsets of faults do.
 use Rattle.std.proofs.Common.{◌≡◌, ℕ, zero, suc, ◌+◌, ◌-◌, ltb, Bool, true, false, List, [], ◌∷◌}
 use Rattle.std.proofs.Common.{length, take, drop, map, Option, Some, None, Result, Ok, Err, cond}
-use Rattle.std.proofs.Common.{refl, sym, ap, ◌∙◌, arith}
+use Rattle.std.proofs.Common.{refl, ap, ◌∙◌, arith}
 use Rattle.std.specs.Prelude.{if◌then◌else◌}
 use Rattle.std.specs.Int.{w32, w64, from_le_bytes}
 use Rattle.std.specs.Str.{is_utf8}
@@ -14,7 +14,6 @@ use Rattle.protobuf_parse_records.specs.Wire.{standing_at, varint_at, varint_wit
 use Rattle.protobuf_parse_records.specs.Wire as wire
 use Rattle.protobuf_parse_records.specs.Splitting.{records_in}
 use Rattle.protobuf_parse_records.specs.Laws.{answer_later, content_later, later, record_later}
-use Rattle.protobuf_parse_records.specs.Laws.{records_later}
 use Rattle.protobuf_parse_records.proofs.Later as records
 use Rattle.protobuf_parse_model.specs.Descriptors.{Text}
 use Rattle.protobuf_parse_wire.specs.Kinds.{Word, varint, eight_bytes, four_bytes}
@@ -26,7 +25,7 @@ use Rattle.protobuf_parse_decode.specs.Decoding.{if_same, meaning_of, message_in
 use Rattle.protobuf_parse_decode.specs.Decoding.{numbers_in, packed, packed_within, same_word}
 use Rattle.protobuf_parse_decode.specs.Decoding.{string_in, text_in, word_at}
 use Rattle.protobuf_parse_decode.specs.Fields.{Value, Values, Meaning, Fields, text, value, known}
-use Rattle.protobuf_parse_decode.specs.Fields.{message, field, no_fields, one_value}
+use Rattle.protobuf_parse_decode.specs.Fields.{message, field, one_value}
 use Rattle.protobuf_parse_decode.specs.Sorts as sorts
 use Rattle.protobuf_parse_decode.specs.Sorts.{Says, Sort}
 

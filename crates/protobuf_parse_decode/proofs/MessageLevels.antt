@@ -1,5 +1,5 @@
 -- One level of a message, by what the code found.
-use Rattle.std.proofs.Common.{◌≡◌, ℕ, zero, suc, ◌-◌, List, Option, Ok, Err, refl, ap, arith}
+use Rattle.std.proofs.Common.{◌≡◌, ℕ, zero, suc, ◌-◌, List, Option, Ok, refl, ap, arith}
 use Rattle.protobuf_parse_records.specs.Views.{Extent, WireRecord}
 use Rattle.protobuf_parse_records.specs.Wire as wire
 use Rattle.protobuf_parse_records.specs.Splitting.{records_in}
@@ -9,10 +9,9 @@ use Rattle.protobuf_parse_model.specs.Descriptors.{Text}
 use Rattle.protobuf_parse_decode.specs.declared.fault.DecodeError.{DecodeError}
 use Rattle.protobuf_parse_decode.specs.declared.fault.DecodeError.TheVariants as error
 use Rattle.protobuf_parse_decode.specs.declared.fault.DecodeFaultKind.TheVariants.{TooDeep}
-use Rattle.protobuf_parse_decode.specs.Answers.{Answer, Fails, error_of, fault, found}
+use Rattle.protobuf_parse_decode.specs.Answers.{Fails, error_of, fault, found}
 use Rattle.protobuf_parse_decode.specs.Declarations.{Enter, FieldsByNumber}
 use Rattle.protobuf_parse_decode.specs.Decoding.{fields_of, message_within}
-use Rattle.protobuf_parse_decode.specs.Fields.{Fields}
 
 pub too_deep : (enter : Enter) (levels at : ℕ) (name : Option Text) (s : Extent) → levels ≡ 0
     → message_within enter levels at name s ≡ fault at TooDeep

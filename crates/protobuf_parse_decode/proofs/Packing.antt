@@ -1,5 +1,6 @@
 -- Packed numbers one after the other, as a loop does.
-use Rattle.std.proofs.Common.{◌≡◌, ℕ, zero, suc, ◌≤◌, ◌<◌, List, [], ◌∷◌, ◌++◌, length, Ok, Err, refl, sym}
+use Rattle.std.proofs.Common.{◌≡◌, ℕ, zero, suc, ◌≤◌, ◌<◌, List, [], ◌∷◌, ◌++◌, length, Ok, Err}
+use Rattle.std.proofs.Common.{refl, sym}
 use Rattle.std.proofs.Common.{ap, ◌∙◌, arith, true}
 use Rattle.protobuf_parse_records.specs.Views.{Extent, delimited}
 use Rattle.protobuf_parse_records.specs.Wire.{◌>>=◌}
@@ -79,8 +80,8 @@ unfolding packed_within
 ends_at w says front n start [] f total le some e so_far = absurd (omega arith)
 ends_at w says front zero start (b ∷ bs) f total le some e so_far = absurd (omega arith)
 ends_at w says front (suc n) start (b ∷ bs) f total le some e so_far =
-    let one : with_front front (packed_within w says (suc n) start (b ∷ bs)) ≡ Err (record_fault f) =
-    rw e refl in
+    let one : with_front front (packed_within w says (suc n) start (b ∷ bs))
+    ≡ Err (record_fault f) = rw e refl in
     sym so_far ∙ one
 
 -- What is wrong with the next number is what is wrong with all.

@@ -1,6 +1,7 @@
 -- Records that were read have numbers that fields can have.
-use Rattle.std.proofs.Common.{◌≡◌, ℕ, zero, suc, ◌/◌, ◌%◌, ◌^◌, ◌<◌, List, [], ◌∷◌, length, Bool, true, false}
-use Rattle.std.proofs.Common.{Option, Some, None, Ok, Err, refl, sym, ap, subst, ◌∙◌, cond}
+use Rattle.std.proofs.Common.{◌≡◌, ℕ, zero, suc, ◌/◌, ◌%◌, ◌^◌, ◌<◌, List, [], ◌∷◌, length, Bool}
+use Rattle.std.proofs.Common.{true, false}
+use Rattle.std.proofs.Common.{Option, Some, None, Ok, refl, subst, cond}
 use Rattle.std.specs.Prelude.{◌&&◌, nat_lt}
 use Rattle.std.proofs.lemmas.Bool.{ltb-true}
 use Rattle.protobuf_parse_records.specs.declared.fault.FaultKind.TheVariants as kind
@@ -8,7 +9,8 @@ use Rattle.protobuf_parse_records.specs.declared.wire.WireType.{WireType}
 use Rattle.protobuf_parse_records.specs.Views.{Extent, WireRecord, Content}
 use Rattle.protobuf_parse_records.specs.Wire.{◌>>=◌, Answer, fault, if_known, is_field_number}
 use Rattle.protobuf_parse_records.specs.Wire.{tag_at, up_to, varint_at, wire_type}
-use Rattle.protobuf_parse_records.specs.Splitting.{payload_at, record_at, records_in, records_within}
+use Rattle.protobuf_parse_records.specs.Splitting.{payload_at, record_at, records_in}
+use Rattle.protobuf_parse_records.specs.Splitting.{records_within}
 use Rattle.protobuf_parse_decode.specs.Parts.{HaveSmallNumbers}
 use Rattle.protobuf_parse_decode.proofs.Steps.{gave, ok_is}
 

@@ -8,7 +8,6 @@ use Rattle.protobuf_parse_model.specs.Descriptors.{MessageDescriptor}
 use Rattle.protobuf_parse_index.specs.Lookups.{extension_numbered, field_numbered, file_named}
 use Rattle.protobuf_parse_index.specs.Lookups.{message_named}
 use Rattle.protobuf_parse_index.specs.Walk.{Standing}
-use Rattle.protobuf_parse_decode.specs.Answers.{Answer, found}
 use Rattle.protobuf_parse_decode.specs.Sorts.{Sort, sort_of}
 
 -- what counts of a field's declaration
@@ -58,7 +57,8 @@ path_declaring files message n (Some extendee) =
 -- whether a file with the syntax proto3 declares the field
 unfoldable pub stands_in_proto3 : List FileDescriptor → (message : Text) → ℤ → FieldDescriptor
     → Bool
-stands_in_proto3 files message n f = path_in_proto3 files (path_declaring files message n f.extendee)
+stands_in_proto3 files message n f =
+    path_in_proto3 files (path_declaring files message n f.extendee)
 
 -- ---- fields
 

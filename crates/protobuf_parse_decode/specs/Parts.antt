@@ -1,12 +1,12 @@
 -- No public clause rests on this file.
 -- The numbers among the sorts, and the records that were read.
-use Rattle.std.specs.Prelude.{ℕ, pos, ◌<◌, ◌^◌, Bool, false, List, Option, Some, None, Ok}
+use Rattle.std.specs.Prelude.{pos, ◌<◌, ◌^◌, Bool, false, List, Option, Some, None, Ok}
 use Rattle.std.specs.List.{AllByRecursion}
 use Rattle.protobuf_parse_records.specs.Views.{Content, WireRecord}
 use Rattle.protobuf_parse_model.specs.declared.descriptor.FieldType.{FieldType}
 use Rattle.protobuf_parse_wire.specs.Kinds.{Word}
 use Rattle.protobuf_parse_decode.specs.Answers.{Answer}
-use Rattle.protobuf_parse_decode.specs.Fields.{Value, Meaning, number, unknown}
+use Rattle.protobuf_parse_decode.specs.Fields.{Meaning, number, unknown}
 use Rattle.protobuf_parse_decode.specs.Sorts.{Says, Sort, numbers, string, octets, message, group}
 use Rattle.protobuf_parse_decode.specs.Sorts.{sort_of}
 use Rattle.protobuf_parse_decode.specs.Decoding.{numbers_in}

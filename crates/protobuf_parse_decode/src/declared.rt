@@ -1,6 +1,6 @@
 //! What files declare of a message's fields.
 
-ghost use Rattle.std.specs.Prelude.{◌≡◌, ◌<◌, ◌^◌, Option, Some, map, option_map, unwrap_or};
+ghost use Rattle.std.specs.Prelude.{◌≡◌, ◌<◌, ◌^◌, map, option_map};
 ghost use Rattle.std.specs.Option.{option_copied};
 ghost use Rattle.protobuf_parse_model.specs.Descriptors.{field_view, file_view};
 ghost use Rattle.protobuf_parse_decode.specs.Answers.{Gives, found};

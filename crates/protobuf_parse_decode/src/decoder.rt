@@ -1,6 +1,6 @@
 //! Messages by descriptors.
 
-ghost use Rattle.std.specs.Prelude.{◌≡◌, ◌<◌, ◌^◌, IsSome, map};
+ghost use Rattle.std.specs.Prelude.{◌≡◌, ◌<◌, ◌^◌, map};
 ghost use Rattle.std.specs.Option.{option_copied};
 ghost use Rattle.protobuf_parse_model.specs.Descriptors.{file_view};
 ghost use Rattle.protobuf_parse_records.specs.Views.{payload_view, record_view, span_view};
@@ -8,23 +8,18 @@ ghost use Rattle.protobuf_parse_decode.specs.Answers.{Gives};
 ghost use Rattle.protobuf_parse_decode.specs.Declarations.{declared_in, entered};
 ghost use Rattle.protobuf_parse_decode.specs.Decoding as spec;
 ghost use Rattle.protobuf_parse_decode.specs.Decoding.{decoded_message, message_within};
-ghost use Rattle.protobuf_parse_decode.specs.Fields.{one_value};
-ghost use Rattle.protobuf_parse_decode.specs.Parts.{HaveSmallNumbers, numbers_meant, says_of};
-ghost use Rattle.protobuf_parse_decode.specs.Parts.{words_of_type};
+ghost use Rattle.protobuf_parse_decode.specs.Parts.{HaveSmallNumbers};
 ghost use Rattle.protobuf_parse_decode.specs.Sorts.{sort_of};
 ghost use Rattle.protobuf_parse_decode.specs.Views.{declared_view, fields_view, meaning_view};
-ghost use Rattle.protobuf_parse_decode.specs.Views.{value_view, word_view};
 
 use crate::declared::{Declared, declaration_of, message_name};
 use crate::fault::{DecodeError, DecodeFaultKind, fault};
 use crate::field::{DecodedField, Meaning, Value};
-use crate::numbers::{Word, value_of, word_of};
-use crate::packed::packed;
+use crate::payloads::{bytes_of, numbers_of, one, string_of};
 use protobuf_parse_index::Index;
 use protobuf_parse_model::FieldType;
 use protobuf_parse_records::{Payload, Record, Span, records_in};
 use std::alloc::Global;
-use std::str;
 
 /// How many messages and groups may stand inside one another, the outermost one among them.
 const MOST_LEVELS: u32 = 100;
@@ -39,14 +34,14 @@ const MOST_LEVELS: u32 = 100;
 /// numbers, whether they have such a value or not. Nothing is copied, so what is given borrows from
 /// `bytes`.
 ///
-/// The time is in proportion to the bytes; each message or group that stands in another one has its
-/// bytes passed over again.
+/// The time is in proportion to the bytes, with a look-up for each record; each message or group
+/// that stands in another one has its bytes passed over again.
 ///
-/// Errors: `Fault` with the first thing that is wrong and its offset. `NoRecords` where the bytes of
-/// a message are no records, or packed numbers end inside one; `NotUtf8` of a `string` in proto3;
-/// `TooDeep` from the 101st level on; `NoSuchMessage` where no file declares `message`, or the
-/// message of a field whose records are there. A message's own records come first, and then what
-/// they hold, record by record. `Memory`.
+/// Errors: `Fault` with the first thing that is wrong and its offset. Faults are looked for from
+/// the left: whether the message is declared, then its records, and then what each of these holds.
+/// `NoRecords` where the bytes of a message are no records, or those of packed numbers are no such
+/// numbers; `NotUtf8` of a `string` in proto3; `TooDeep` from the 101st level on; `NoSuchMessage`
+/// where no file declares `message`, or the message that a record holds. `Memory`.
 ///
 /// ```text
 /// let index = Index::of(alloc, &parsed.file_descriptors)?;
@@ -115,6 +110,7 @@ fn fields_of<'a>(
     Ok(fields)
 }
 
+/// What a record means.
 #[cycle(message)]
 #[tactic(auto, unfolding(crate::specs::Decoding::meaning_of))]
 fn meaning_of<'a>(
@@ -158,50 +154,6 @@ fn known<'a>(
         FieldType::Message => inside_of(alloc, index, levels, at, field.type_name, payload),
         FieldType::Group => group_of(alloc, index, levels, at, field.type_name, payload),
         _ => numbers_of(alloc, field.field_type, field.repeated, payload),
-    }
-}
-
-fn one<'a>(alloc: Global, value: Value<'a>) -> Result<Meaning<'a>, DecodeError>
-    ensures { Gives meaning_view result (Ok (one_value (value_view value.entry))) }
-{
-    let mut values = Vec::new(alloc);
-    values.push(value)?;
-    Ok(Meaning::Known(values))
-}
-
-/// A string, which has to be UTF-8 or not.
-fn string_of<'a>(
-    alloc: Global,
-    utf8: bool,
-    payload: Payload<'a>,
-) -> Result<Meaning<'a>, DecodeError>
-    ensures { Gives meaning_view result (spec.string_in utf8 (payload_view payload.entry)) }
-{
-    if utf8 {
-        text_of(alloc, payload)
-    } else {
-        bytes_of(alloc, payload)
-    }
-}
-
-fn text_of<'a>(alloc: Global, payload: Payload<'a>) -> Result<Meaning<'a>, DecodeError>
-    ensures { Gives meaning_view result (spec.text_in (payload_view payload.entry)) }
-{
-    match payload {
-        Payload::Delimited(span) => match str::from_utf8(span.bytes) {
-            Ok(text) => one(alloc, Value::Text(text)),
-            Err(_) => Err(fault(span.start, DecodeFaultKind::NotUtf8)),
-        },
-        _ => Ok(Meaning::Unknown),
-    }
-}
-
-fn bytes_of<'a>(alloc: Global, payload: Payload<'a>) -> Result<Meaning<'a>, DecodeError>
-    ensures { Gives meaning_view result (spec.bytes_in (payload_view payload.entry)) }
-{
-    match payload {
-        Payload::Delimited(span) => one(alloc, Value::Bytes(span.bytes)),
-        _ => Ok(Meaning::Unknown),
     }
 }
 
@@ -249,76 +201,4 @@ fn group_of<'a>(
         }
         _ => Ok(Meaning::Unknown),
     }
-}
-
-/// Numbers or truth values.
-fn numbers_of<'a>(
-    alloc: Global,
-    field_type: FieldType,
-    repeated: bool,
-    payload: Payload<'a>,
-) -> Result<Meaning<'a>, DecodeError>
-    requires { IsSome (words_of_type field_type) }
-    ensures { Gives meaning_view result
-        (numbers_meant (words_of_type field_type) repeated
-        (payload_view payload.entry)) }
-{
-    match word_of(field_type) {
-        Some(expected) => words_of(alloc, field_type, expected, repeated, payload),
-        None => Ok(Meaning::Unknown),
-    }
-}
-
-fn words_of<'a>(
-    alloc: Global,
-    field_type: FieldType,
-    expected: Word,
-    repeated: bool,
-    payload: Payload<'a>,
-) -> Result<Meaning<'a>, DecodeError>
-    requires { IsSome (words_of_type field_type) }
-    ensures { Gives meaning_view result
-        (spec.numbers_in (word_view expected) (says_of (words_of_type field_type))
-        repeated (payload_view payload.entry)) }
-{
-    match payload {
-        Payload::Varint(number) => one_word(alloc, field_type, expected, Word::Varint, number),
-        Payload::Fixed64(number) => one_word(alloc, field_type, expected, Word::EightBytes, number),
-        Payload::Fixed32(number) => {
-            one_word(
-                alloc,
-                field_type,
-                expected,
-                Word::FourBytes,
-                u64::from(number),
-            )
-        }
-        Payload::Delimited(span) => {
-            if !repeated {
-                return Ok(Meaning::Unknown);
-            }
-            let values = packed(alloc, field_type, expected, span)?;
-            Ok(Meaning::Known(values))
-        }
-        Payload::Group(_) => Ok(Meaning::Unknown),
-    }
-}
-
-/// One number, if it stands as numbers of the type do.
-fn one_word<'a>(
-    alloc: Global,
-    field_type: FieldType,
-    expected: Word,
-    found: Word,
-    number: u64,
-) -> Result<Meaning<'a>, DecodeError>
-    requires { IsSome (words_of_type field_type) }
-    ensures { Gives meaning_view result
-        (spec.if_same (spec.same_word (word_view expected) (word_view found))
-        (says_of (words_of_type field_type) number)) }
-{
-    if expected != found {
-        return Ok(Meaning::Unknown);
-    }
-    one(alloc, value_of(field_type, number))
 }

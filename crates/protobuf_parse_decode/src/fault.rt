@@ -11,7 +11,7 @@ use thiserror::Error;
 /// What is wrong with the bytes.
 #[derive(Clone, Copy, Debug, PartialEq, Eq, Error)]
 pub enum DecodeFaultKind {
-    /// The bytes of a message are no records, or packed numbers end inside one.
+    /// The bytes of a message are no records, or those of packed numbers are no such numbers.
     #[error("{0}")]
     NoRecords(FaultKind),
     /// A `string` that a file with the syntax `proto3` declares is not UTF-8.

@@ -8,6 +8,7 @@ mod field;
 mod laws;
 mod numbers;
 mod packed;
+mod payloads;
 #[cfg(test)]
 mod tests;
 

@@ -53,10 +53,12 @@ fn first_word(word: Word, span: Span<'_>) -> Result<(u64, Span<'_>), RecordsErro
 /// So many bytes, and what stands behind them.
 #[tactic(auto, unfolding(protobuf_parse_records::specs::Wire::bytes_at))]
 fn first_bytes(count: usize, span: Span<'_>) -> Result<(&[u8], Span<'_>), RecordsError>
-    ensures gives { wire.Gives (λ x. (record { start = span.entry.start; bytes = x.0.now }, span_view x.1))
-        result (wire.bytes_at count (span_view span.entry)) }
+    ensures gives { wire.Gives
+        (λ x. (record { start = span.entry.start; bytes = x.0.now }, span_view x.1)) result
+        (wire.bytes_at count (span_view span.entry)) }
     ensures counted { IfOk result (λ x. length x.0.now ≡ count) }
-    ensures shorter { IfOk result (λ x. length x.1.bytes.now + count ≡ length span.entry.bytes.now) }
+    ensures shorter { IfOk result
+        (λ x. length x.1.bytes.now + count ≡ length span.entry.bytes.now) }
 {
     if span.bytes.len() < count {
         return Err(RecordsError::Fault(Fault {

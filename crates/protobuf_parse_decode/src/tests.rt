@@ -83,8 +83,8 @@ fn extending(alloc: Global, syntax: &str) -> Result<FileDescriptorProto, AllocEr
     Ok(file)
 }
 
-/// What the one record means that the bytes are, as `Debug` writes it. With `syntax` for the file of
-/// `.M` and `other` for that of the extensions.
+/// What the one record means that the bytes are, as `Debug` writes it. The file of `.M` has the
+/// syntax `syntax`, and that of the extensions `other`.
 fn meaning(alloc: Global, syntax: &str, other: &str, bytes: &[u8]) -> Result<String, DecodeError> {
     let files = [file(alloc, syntax)?, extending(alloc, other)?];
     let index = Index::of(alloc, &files)?;

@@ -1,4 +1,4 @@
-use Rattle.std.proofs.Common.{◌≡◌, Ok, ◌+◌, List, ◌++◌, ◌∷◌, [], map, drop, Option, sym, subst, ap}
+use Rattle.std.proofs.Common.{◌≡◌, ◌+◌, List, ◌++◌, ◌∷◌, [], map, drop, sym, subst, ap}
 use Rattle.std.proofs.Common.{◌∙◌, ◌-◌, arith}
 use Rattle.std.proofs.lemmas.Result.{err_from_is_err_and}
 use Rattle.std.proofs.lemmas.List.{map_push, drop_all}
@@ -16,7 +16,8 @@ use Rattle.protobuf_parse_decode.specs.Views.{FieldItem, field_step, field_view,
 use Rattle.protobuf_parse_decode.specs.Views.{meaning_step, meaning_view, value_step}
 use Rattle.protobuf_parse_decode.proofs.MessageLevels.{too_deep, not_entered, no_records, one_level}
 use Rattle.protobuf_parse_decode.proofs.SmallNumbers.{small_numbers}
-use Rattle.protobuf_parse_decode.proofs.Telling.{ToTell, ends, goes_on, is_done, item_of, next_record}
+use Rattle.protobuf_parse_decode.proofs.Telling.{ToTell, ends, goes_on, is_done, item_of}
+use Rattle.protobuf_parse_decode.proofs.Telling.{next_record}
 use Rattle.protobuf_parse_decode.proofs.decoder.+message.Goals as goal
 
 pub message_of-returns-then-levels-eq0 : goal.message_of-returns-then-levels-eq0
@@ -78,7 +79,8 @@ fields_of-returns-in_err-meaning t c =
     rw (p.1, p.2)
     (ends inner declared (map field_view c.records.fields.items) (record_view x)
     (map record_view (drop (c.records.record-index + 1) list)) _ _ c.in_err-meaning.ensures
-    (subst (λ (rs : List WireRecord). ToTell inner declared (map field_view c.records.fields.items) rs
+    (subst (λ (rs : List WireRecord).
+    ToTell inner declared (map field_view c.records.fields.items) rs
     (fields_of inner declared (map record_view list))) next
     c.records.invariant.0))
 

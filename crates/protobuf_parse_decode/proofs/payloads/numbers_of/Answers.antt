@@ -7,7 +7,7 @@ use Rattle.protobuf_parse_decode.specs.Fields.{Meaning}
 use Rattle.protobuf_parse_decode.specs.Parts.{numbers_meant, says_of, value_word, words_of_type}
 use Rattle.protobuf_parse_decode.specs.Sorts.{Says}
 use Rattle.protobuf_parse_decode.specs.Views.{meaning_view, word_view}
-use Rattle.protobuf_parse_decode.proofs.decoder.numbers_of.Goals as goal
+use Rattle.protobuf_parse_decode.proofs.payloads.numbers_of.Goals as goal
 
 -- the numbers of a type that has some
 meant_is : (o : Option (Word × Says)) (w : Word) (r : Bool) (p : Content) → Some w ≡ value_word o
@@ -21,4 +21,5 @@ pub returns-in-Some : goal.returns-in-Some
 returns-in-Some c =
     let e = meant_is (words_of_type c.args.field_type) (word_view c.in-Some.expected)
     c.args.repeated (payload_view c.args.payload) c.in-Some.ensures in
-    subst (λ (r : Answer Meaning). Gives meaning_view c.words_of.result r) (sym e) c.words_of.ensures
+    subst (λ (r : Answer Meaning). Gives meaning_view c.words_of.result r) (sym e)
+    c.words_of.ensures

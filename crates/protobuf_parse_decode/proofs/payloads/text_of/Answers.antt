@@ -9,7 +9,7 @@ use Rattle.protobuf_parse_decode.specs.Decoding.{text_in}
 use Rattle.protobuf_parse_decode.specs.Fields.{Meaning, Value, one_value, text}
 use Rattle.protobuf_parse_decode.specs.Views.{meaning_view}
 use Rattle.protobuf_parse_decode.proofs.CodeViews.{text_is}
-use Rattle.protobuf_parse_decode.proofs.decoder.text_of.Goals as goal
+use Rattle.protobuf_parse_decode.proofs.payloads.text_of.Goals as goal
 
 not_true : (b : Bool) → (b ≡ true → ⊥) → b ≡ false
 not_true true never = absurd (never refl)

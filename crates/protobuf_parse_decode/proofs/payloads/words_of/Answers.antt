@@ -8,7 +8,7 @@ use Rattle.protobuf_parse_decode.specs.Parts.{says_of, words_of_type}
 use Rattle.protobuf_parse_decode.specs.Views.{values_view, word_view}
 use Rattle.protobuf_parse_decode.proofs.CodeViews.{known_is}
 use Rattle.protobuf_parse_decode.proofs.Packing.{packed_fails, packed_given}
-use Rattle.protobuf_parse_decode.proofs.decoder.words_of.Goals as goal
+use Rattle.protobuf_parse_decode.proofs.payloads.words_of.Goals as goal
 
 pub returns-in_err-values-in-Delimited : goal.returns-in_err-values-in-Delimited
 returns-in_err-values-in-Delimited c =
