@@ -181,7 +181,10 @@ def solid(pieces):
 def top(*snippets):
     """A mistake that is one of these declarations of a file."""
     def make(rng, text):
-        at = rng.choice([m.start() for m in re.finditer(r"^(message|enum|service)", text, re.M)])
+        places = [m.start() for m in re.finditer(r"^(message|enum|service)", text, re.M)]
+        if not places:
+            return None
+        at = rng.choice(places)
         return text[:at] + rng.choice(snippets).replace("@", str(rng.randrange(10, 90))) + "\n" + text[at:]
     return make
 
@@ -189,7 +192,10 @@ def top(*snippets):
 def member(*snippets):
     """A mistake that is one of these statements of a message."""
     def make(rng, text):
-        at = rng.choice([m.end() for m in re.finditer(r"^message \w+ \{\n", text, re.M)])
+        places = [m.end() for m in re.finditer(r"^message \w+ \{\n", text, re.M)]
+        if not places:
+            return None
+        at = rng.choice(places)
         return text[:at] + "  " + rng.choice(snippets) + "\n" + text[at:]
     return make
 

@@ -6,6 +6,7 @@ mod calls;
 mod checked;
 mod checks;
 mod customs;
+mod decoded;
 mod google;
 mod imports;
 mod names;
@@ -45,6 +46,7 @@ impl Answers for Plain {
             "set" => sets::set(alloc, case, row),
             "set_read" => sets::set_read(alloc, case, row),
             "read" => bytes::read(alloc, case, given),
+            "decode" => decoded::decoded(alloc, case, given),
             "write" => bytes::write(alloc, case, given),
             "escape" => names::escape(alloc, given),
             _ => text_answer(alloc, case, given),

@@ -9,8 +9,8 @@ use Rattle.protobuf_parse_decode.specs.declared.field.Value as code
 use Rattle.protobuf_parse_decode.specs.declared.field.Value.{fold-roll-Value}
 use Rattle.protobuf_parse_decode.specs.declared.field.Value.TheVariants as values
 use Rattle.protobuf_parse_decode.specs.Fields.{Value, Meaning, text, known}
-use Rattle.protobuf_parse_decode.specs.Views.{FieldItem, field_step, meaning_step, meaning_view}
-use Rattle.protobuf_parse_decode.specs.Views.{value_step, value_view, values_view}
+use Rattle.protobuf_parse_decode.specs.Inside.{meaning_view, value_view, values_view}
+use Rattle.protobuf_parse_decode.specs.Views.{FieldItem, field_step, meaning_step, value_step}
 
 pub known_is : (vs : Vec code.Value Global)
     → meaning_view (meanings.Known vs) ≡ known (values_view vs.items)

@@ -6,3 +6,4 @@ pub mod Decoding
 pub mod Laws
 pub mod Parts
 pub mod Views
+pub mod Inside

@@ -6,7 +6,7 @@ ghost use Rattle.protobuf_parse_model.specs.Descriptors.{field_view, file_view};
 ghost use Rattle.protobuf_parse_decode.specs.Answers.{Gives, found};
 ghost use Rattle.protobuf_parse_decode.specs.Declarations as spec;
 ghost use Rattle.protobuf_parse_decode.specs.Sorts.{sort_of};
-ghost use Rattle.protobuf_parse_decode.specs.Views.{declared_view};
+ghost use Rattle.protobuf_parse_decode.specs.Inside.{declared_view};
 
 use crate::fault::{DecodeError, DecodeFaultKind, fault};
 use protobuf_parse_index::Index;

@@ -10,7 +10,8 @@ ghost use Rattle.protobuf_parse_decode.specs.Decoding as spec;
 ghost use Rattle.protobuf_parse_decode.specs.Decoding.{decoded_message, message_within};
 ghost use Rattle.protobuf_parse_decode.specs.Parts.{HaveSmallNumbers};
 ghost use Rattle.protobuf_parse_decode.specs.Sorts.{sort_of};
-ghost use Rattle.protobuf_parse_decode.specs.Views.{declared_view, fields_view, meaning_view};
+ghost use Rattle.protobuf_parse_decode.specs.Inside.{declared_view, meaning_view};
+ghost use Rattle.protobuf_parse_decode.specs.Views.{fields_view};
 
 use crate::declared::{Declared, declaration_of, message_name};
 use crate::fault::{DecodeError, DecodeFaultKind, fault};

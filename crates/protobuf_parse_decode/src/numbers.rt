@@ -3,7 +3,7 @@
 ghost use Rattle.std.specs.Prelude.{◌≡◌, ◌%◌, ◌^◌, IsSome, option_map};
 ghost use Rattle.protobuf_parse_wire.specs.Reading.{unzigzag};
 ghost use Rattle.protobuf_parse_decode.specs.Parts.{says_of, value_word, words_of_type};
-ghost use Rattle.protobuf_parse_decode.specs.Views.{value_view, word_view};
+ghost use Rattle.protobuf_parse_decode.specs.Inside.{value_view, word_view};
 
 use crate::field::Value;
 use protobuf_parse_model::FieldType;

@@ -6,7 +6,7 @@ ghost use Rattle.protobuf_parse_records.specs.Wire as wire;
 ghost use Rattle.protobuf_parse_decode.specs.Answers.{Gives};
 ghost use Rattle.protobuf_parse_decode.specs.Decoding as spec;
 ghost use Rattle.protobuf_parse_decode.specs.Parts.{says_of, words_of_type};
-ghost use Rattle.protobuf_parse_decode.specs.Views.{values_view, word_view};
+ghost use Rattle.protobuf_parse_decode.specs.Inside.{values_view, word_view};
 
 use crate::fault::DecodeError;
 use crate::field::Value;

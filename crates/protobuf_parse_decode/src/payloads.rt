@@ -6,7 +6,7 @@ ghost use Rattle.protobuf_parse_decode.specs.Answers.{Gives};
 ghost use Rattle.protobuf_parse_decode.specs.Decoding as spec;
 ghost use Rattle.protobuf_parse_decode.specs.Fields.{one_value};
 ghost use Rattle.protobuf_parse_decode.specs.Parts.{numbers_meant, says_of, words_of_type};
-ghost use Rattle.protobuf_parse_decode.specs.Views.{meaning_view, value_view, word_view};
+ghost use Rattle.protobuf_parse_decode.specs.Inside.{meaning_view, value_view, word_view};
 
 use crate::fault::{DecodeError, DecodeFaultKind, fault};
 use crate::field::{Meaning, Value};

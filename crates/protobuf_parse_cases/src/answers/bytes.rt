@@ -29,7 +29,7 @@ pub fn read(alloc: Global, case: &Case, given: &[u8]) -> Result<String> {
     read_told(alloc, &files, message, &bytes)
 }
 
-fn files_of_run(alloc: Global, words: &str, case: &Case) -> Result<Vec<FileDescriptorProto>> {
+pub fn files_of_run(alloc: Global, words: &str, case: &Case) -> Result<Vec<FileDescriptorProto>> {
     match checked(alloc, words, &case.files)? {
         Ok(files) => Ok(files),
         Err(fault) => bail!("{fault}"),

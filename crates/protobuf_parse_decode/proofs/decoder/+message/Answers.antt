@@ -12,8 +12,9 @@ use Rattle.protobuf_parse_decode.specs.Declarations.{declared_in, entered}
 use Rattle.protobuf_parse_decode.specs.Decoding.{fields_of, message_within}
 use Rattle.protobuf_parse_decode.specs.Fields.{Fields, Meaning, Value}
 use Rattle.protobuf_parse_decode.specs.Parts.{HaveSmallNumbers}
+use Rattle.protobuf_parse_decode.specs.Inside.{meaning_view}
 use Rattle.protobuf_parse_decode.specs.Views.{FieldItem, field_step, field_view, fields_view}
-use Rattle.protobuf_parse_decode.specs.Views.{meaning_step, meaning_view, value_step}
+use Rattle.protobuf_parse_decode.specs.Views.{meaning_step, value_step}
 use Rattle.protobuf_parse_decode.proofs.MessageLevels.{too_deep, not_entered, no_records, one_level}
 use Rattle.protobuf_parse_decode.proofs.SmallNumbers.{small_numbers}
 use Rattle.protobuf_parse_decode.proofs.Telling.{ToTell, ends, goes_on, is_done, item_of}

@@ -5,7 +5,7 @@ use Rattle.std.proofs.lemmas.Grind.{common_steps}
 use Rattle.protobuf_parse_records.specs.Views.{span_view}
 use Rattle.protobuf_parse_decode.specs.Fields.{Value}
 use Rattle.protobuf_parse_decode.specs.Parts.{says_of, words_of_type}
-use Rattle.protobuf_parse_decode.specs.Views.{value_view, word_view}
+use Rattle.protobuf_parse_decode.specs.Inside.{value_view, word_view}
 use Rattle.protobuf_parse_decode.proofs.Packing.{ends, goes_on, is_done}
 use Rattle.protobuf_parse_decode.proofs.packed.packed.Goals as goal
 

@@ -2,7 +2,7 @@ use Rattle.std.proofs.Common.{length, map}
 use Rattle.protobuf_parse_records.specs.Views.{span_view}
 use Rattle.protobuf_parse_decode.specs.Decoding as spec
 use Rattle.protobuf_parse_decode.specs.Parts.{says_of, words_of_type}
-use Rattle.protobuf_parse_decode.specs.Views.{value_view, word_view}
+use Rattle.protobuf_parse_decode.specs.Inside.{value_view, word_view}
 use Rattle.protobuf_parse_decode.proofs.Packing.{ToUnpack}
 use Rattle.protobuf_parse_decode.proofs.packed.packed.Given as goal
 

@@ -6,7 +6,7 @@ use Rattle.protobuf_parse_decode.specs.Decoding.{numbers_in}
 use Rattle.protobuf_parse_decode.specs.Fields.{Meaning}
 use Rattle.protobuf_parse_decode.specs.Parts.{numbers_meant, says_of, value_word, words_of_type}
 use Rattle.protobuf_parse_decode.specs.Sorts.{Says}
-use Rattle.protobuf_parse_decode.specs.Views.{meaning_view, word_view}
+use Rattle.protobuf_parse_decode.specs.Inside.{meaning_view, word_view}
 use Rattle.protobuf_parse_decode.proofs.payloads.numbers_of.Goals as goal
 
 -- the numbers of a type that has some

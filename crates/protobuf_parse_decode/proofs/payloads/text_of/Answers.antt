@@ -7,7 +7,7 @@ use Rattle.protobuf_parse_decode.specs.declared.fault.DecodeFaultKind.TheVariant
 use Rattle.protobuf_parse_decode.specs.Answers.{Answer, Gives, fault}
 use Rattle.protobuf_parse_decode.specs.Decoding.{text_in}
 use Rattle.protobuf_parse_decode.specs.Fields.{Meaning, Value, one_value, text}
-use Rattle.protobuf_parse_decode.specs.Views.{meaning_view}
+use Rattle.protobuf_parse_decode.specs.Inside.{meaning_view}
 use Rattle.protobuf_parse_decode.proofs.CodeViews.{text_is}
 use Rattle.protobuf_parse_decode.proofs.payloads.text_of.Goals as goal
 

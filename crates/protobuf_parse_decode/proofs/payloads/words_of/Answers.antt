@@ -5,7 +5,7 @@ use Rattle.protobuf_parse_records.specs.declared.wire.Payload.{Payload}
 use Rattle.protobuf_parse_decode.specs.Decoding.{numbers_in}
 use Rattle.protobuf_parse_decode.specs.Fields.{Meaning}
 use Rattle.protobuf_parse_decode.specs.Parts.{says_of, words_of_type}
-use Rattle.protobuf_parse_decode.specs.Views.{values_view, word_view}
+use Rattle.protobuf_parse_decode.specs.Inside.{values_view, word_view}
 use Rattle.protobuf_parse_decode.proofs.CodeViews.{known_is}
 use Rattle.protobuf_parse_decode.proofs.Packing.{packed_fails, packed_given}
 use Rattle.protobuf_parse_decode.proofs.payloads.words_of.Goals as goal
