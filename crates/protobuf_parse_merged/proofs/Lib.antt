@@ -1,0 +1,5 @@
+pub mod Ordered
+pub mod Telling
+pub mod Values
+pub mod Grouping
+pub mod Levels

@@ -1,6 +1,14 @@
 //! Messages as people mean them: what the records of a message leave once they are merged.
 #![tactic(auto)]
 
+mod declared;
+mod fault;
+mod merging;
 mod message;
+mod occurrences;
+mod runs;
+mod scalars;
 
+pub use fault::MergeError;
+pub use merging::merged;
 pub use message::{Field, FieldValue, Message, Unknown};
