@@ -32,7 +32,7 @@ too_deep files (suc n) name fs none = absurd (omega arith)
 
 pub one_level : (files : List FileDescriptor) (levels : ℕ) (name : Text) (fs : Fields)
     (os : List Occurrence) (us : List Unknown) → (levels ≡ 0 → ⊥)
-    → IsTold (declared_in files name) fs os us
+    → IsTold files (declared_in files name) fs os us
     → merged_within files levels name fs
     ≡ with_fields (fields_below (merged_within files (levels - 1)) (declared_in files name) os (2 ^ 32))
     us
@@ -40,9 +40,9 @@ unfolding merged_within
 one_level files zero name fs os us some told = absurd (some refl)
 one_level files (suc n) name fs os us some told =
     let k : n ≡ suc n - 1 = omega arith in
-    ap (λ (x : Answer (List FieldItem)). with_fields x (unknown_among (declared_in files name) fs))
+    ap (λ (x : Answer (List FieldItem)). with_fields x (unknown_among files (declared_in files name) fs))
     (sym (same_fields (merged_within files n) (declared_in files name)
-    (occurrences (declared_in files name) fs) os told.by_number.same (2 ^ 32)))
+    (occurrences files (declared_in files name) fs) os told.by_number.same (2 ^ 32)))
     ∙ ap (λ (unknown : List Unknown). with_fields
     (fields_below (merged_within files n) (declared_in files name) os (2 ^ 32)) unknown)
     (sym told.unknown)

@@ -1,5 +1,6 @@
 pub mod Ordered
 pub mod Telling
+pub mod Firsts
 pub mod Values
 pub mod Grouping
 pub mod Levels

@@ -1,6 +1,7 @@
 -- What fields hold, one after the other.
 use Rattle.std.proofs.Common.{◌≡◌, ℕ, ◌+◌, ◌<◌, List, [], ◌∷◌, ◌++◌, length, get_or, drop, map, refl}
 use Rattle.std.proofs.Common.{sym, ap, ◌∙◌, append_assoc, append-nil, drop-cons, add-one}
+use Rattle.protobuf_parse_model.specs.Descriptors.{FileDescriptor}
 use Rattle.protobuf_parse_decode.specs.declared.field.DecodedField.{DecodedField}
 use Rattle.protobuf_parse_decode.specs.Fields.{Fields, no_fields, field}
 use Rattle.protobuf_parse_decode.specs.Laws.{join}
@@ -24,62 +25,62 @@ next_field xs i x below is =
     let step : drop i xs ≡ x ∷ drop (i + 1) xs = rw (add-one, drop-cons xs i x, ← is) refl in
     ap fields_view step
 
-module _ (declared : FieldsByNumber) where
+module _ (files : List FileDescriptor) (declared : FieldsByNumber) where
   -- the values of one field more
   pub values_more : (front : List Occurrence) (f : FieldItem) (fs : Fields) (total : List Occurrence)
-      → front ++ occurrences declared (field f.number f.whole f.meaning fs) ≡ total
-      → (front ++ occurrences_of (declared f.number) f.number f.meaning) ++ occurrences declared fs
+      → front ++ occurrences files declared (field f.number f.whole f.meaning fs) ≡ total
+      → (front ++ occurrences_of files (declared f.number) f.number f.whole f.meaning) ++ occurrences files declared fs
       ≡ total
   unfolding occurrences
   values_more front f fs total h =
-      append_assoc front (occurrences_of (declared f.number) f.number f.meaning)
-      (occurrences declared fs)
+      append_assoc front (occurrences_of files (declared f.number) f.number f.whole f.meaning)
+      (occurrences files declared fs)
       ∙ h
 
-  pub no_values : (front total : List Occurrence) → front ++ occurrences declared no_fields ≡ total
+  pub no_values : (front total : List Occurrence) → front ++ occurrences files declared no_fields ≡ total
       → front ≡ total
   unfolding occurrences
   no_values front total h = sym (append-nil front) ∙ h
 
   -- what is unknown of one field more
   pub unknown_more : (front : List Unknown) (f : FieldItem) (fs : Fields) (total : List Unknown)
-      → front ++ unknown_among declared (field f.number f.whole f.meaning fs) ≡ total
-      → (front ++ unknown_of (declared f.number) f.number f.whole f.meaning)
-      ++ unknown_among declared fs
+      → front ++ unknown_among files declared (field f.number f.whole f.meaning fs) ≡ total
+      → (front ++ unknown_of files (declared f.number) f.number f.whole f.meaning)
+      ++ unknown_among files declared fs
       ≡ total
   unfolding unknown_among
   unknown_more front f fs total h =
-      append_assoc front (unknown_of (declared f.number) f.number f.whole f.meaning)
-      (unknown_among declared fs)
+      append_assoc front (unknown_of files (declared f.number) f.number f.whole f.meaning)
+      (unknown_among files declared fs)
       ∙ h
 
   pub nothing_unknown : (front total : List Unknown)
-      → front ++ unknown_among declared no_fields ≡ total → front ≡ total
+      → front ++ unknown_among files declared no_fields ≡ total → front ≡ total
   unfolding unknown_among
   nothing_unknown front total h = sym (append-nil front) ∙ h
 
   -- ---- messages
 
   pub values_join : (fs gs : Fields)
-      → occurrences declared (join fs gs) ≡ occurrences declared fs ++ occurrences declared gs
+      → occurrences files declared (join fs gs) ≡ occurrences files declared fs ++ occurrences files declared gs
   unfolding occurrences
   values_join no_fields gs = refl
   values_join (field n whole meaning fs) gs =
-      ap (λ (os : List Occurrence). occurrences_of (declared n) n meaning ++ os)
+      ap (λ (os : List Occurrence). occurrences_of files (declared n) n whole meaning ++ os)
       (values_join fs gs)
-      ∙ sym (append_assoc (occurrences_of (declared n) n meaning) (occurrences declared fs)
-      (occurrences declared gs))
+      ∙ sym (append_assoc (occurrences_of files (declared n) n whole meaning) (occurrences files declared fs)
+      (occurrences files declared gs))
 
   pub unknown_join : (fs gs : Fields)
-      → unknown_among declared (join fs gs)
-      ≡ unknown_among declared fs ++ unknown_among declared gs
+      → unknown_among files declared (join fs gs)
+      ≡ unknown_among files declared fs ++ unknown_among files declared gs
   unfolding unknown_among
   unknown_join no_fields gs = refl
   unknown_join (field n whole meaning fs) gs =
-      ap (λ (us : List Unknown). unknown_of (declared n) n whole meaning ++ us)
+      ap (λ (us : List Unknown). unknown_of files (declared n) n whole meaning ++ us)
       (unknown_join fs gs)
-      ∙ sym (append_assoc (unknown_of (declared n) n whole meaning) (unknown_among declared fs)
-      (unknown_among declared gs))
+      ∙ sym (append_assoc (unknown_of files (declared n) n whole meaning) (unknown_among files declared fs)
+      (unknown_among files declared gs))
 
 -- the messages of what stands there next
 next_joined : (h : Held) (hs : List Held) → joined (h ∷ hs) ≡ join (fields_in h) (joined hs)

@@ -1,5 +1,5 @@
 -- What files declare of the fields of a message that merging asks for.
-use Rattle.std.specs.Prelude.{ℕ, ℤ, pos, ◌^◌, Bool, true, false, not, ◌&&◌, nat_lt, List, []}
+use Rattle.std.specs.Prelude.{ℕ, ℤ, pos, negsuc, ◌^◌, Bool, true, false, not, ◌&&◌, nat_lt, List, []}
 use Rattle.std.specs.Prelude.{Option, Some, None, option_map, unwrap_or, if◌then◌else◌}
 use Rattle.std.specs.Option.{is_some, option_and_then}
 use Rattle.protobuf_parse_model.specs.Options.{MessageOptionValues}
@@ -8,6 +8,7 @@ use Rattle.protobuf_parse_model.specs.Descriptors.{EnumDescriptor, MessageDescri
 use Rattle.protobuf_parse_model.specs.declared.descriptor.FieldType.{FieldType}
 use Rattle.protobuf_parse_model.specs.declared.descriptor.FieldType.TheVariants as types
 use Rattle.protobuf_parse_index.specs.Lookups.{enum_named, field_numbered, message_named}
+use Rattle.protobuf_parse_index.specs.Lookups.{value_name}
 use Rattle.protobuf_parse_index.specs.Walk.{Standing}
 use Rattle.protobuf_parse_decode.specs.Declarations.{is_repeated, path_in_proto3}
 
@@ -17,7 +18,7 @@ pub record Declared : Type 0 where
   -- whether a zero says no more than that nothing is there
   pub implicit : Bool
   -- the position of its oneof
-  pub oneof : Option ℤ
+  pub oneof : Option ℕ
   -- the message or the enum that it holds
   pub type_name : Text
   -- whether that is a closed enum
@@ -80,6 +81,10 @@ is_enum types.Message = false
 is_enum types.Group = false
 is_enum types.Enum = true
 
+-- whether files declare the number as a value of the enum of that name
+abbrev pub is_declared : List FileDescriptor → Text → ℤ → Bool
+is_declared files name n = is_some (value_name files name n)
+
 -- ---- presence
 
 -- whether the message of that name stands in a file with the syntax proto3
@@ -97,6 +102,11 @@ is_implicit files message f =
 
 -- ---- fields
 
+-- a number that is a position
+abbrev pub position_of : ℤ → Option ℕ
+position_of (pos n) = Some n
+position_of (negsuc n) = None
+
 -- a field's declaration, in that message
 abbrev pub declaration : List FileDescriptor → (message : Text) → FieldDescriptor → Declared
 declaration files message f =
@@ -104,7 +114,7 @@ declaration files message f =
     record {
       repeated = is_repeated f.label;
       implicit = is_implicit files message f;
-      oneof = f.oneof_index;
+      oneof = option_and_then position_of f.oneof_index;
       type_name = type_name;
       closed = is_enum f.type_ && closed_named files type_name;
       is_map = is_map_field files (is_repeated f.label) type_name;

@@ -2,6 +2,7 @@
 -- What the code passes on, as the definitions have it.
 use Rattle.std.specs.Prelude.{◌≡◌, ◌≤◌, ℕ, List, [], ◌∷◌, ◌++◌, map}
 use Rattle.std.specs.List.{AllByRecursion}
+use Rattle.protobuf_parse_model.specs.Descriptors.{FileDescriptor}
 use Rattle.protobuf_parse_decode.specs.Fields as decoded
 use Rattle.protobuf_parse_decode.specs.Views.{fields_view}
 use Rattle.protobuf_parse_merged.specs.declared.declared.Declared as codedecl
@@ -18,7 +19,8 @@ use Rattle.protobuf_parse_merged.specs.Merged.{Value, number, float, double, tru
 use Rattle.protobuf_parse_merged.specs.Merged.{FieldItem, Message, Unknown}
 use Rattle.protobuf_parse_merged.specs.Declarations.{Declared, FieldsByNumber}
 use Rattle.protobuf_parse_merged.specs.Occurrences.{Held, plain, inside, Occurrence}
-use Rattle.protobuf_parse_merged.specs.Occurrences.{occurrences, unknown_among}
+use Rattle.protobuf_parse_merged.specs.Occurrences.{held_of, occurrences, stray}
+use Rattle.protobuf_parse_merged.specs.Occurrences.{unknown_among, unless_stray}
 use Rattle.protobuf_parse_merged.specs.Merging.{held_at}
 use Rattle.protobuf_parse_merged.specs.Views.{value_step, field_step, message_step}
 
@@ -49,7 +51,13 @@ held_view (heldcase.Inside fs) = inside (fields_view fs.now)
 
 -- a value where it stands
 abbrev pub occurrence_view : codeocc.Occurrence → Occurrence
-occurrence_view o = record { number = o.number; held = held_view o.held }
+occurrence_view o = record { number = o.number; oneof = o.oneof; held = held_view o.held }
+
+-- a value that was decoded, where it stands, if it is one of the field
+abbrev pub occurrence_of : List FileDescriptor → Declared → ℕ → List ℕ → decoded.Value
+    → List Occurrence
+occurrence_of files d n whole v = unless_stray (stray files d n whole v)
+    (record { number = n; oneof = d.oneof; held = held_of v })
 
 -- a value
 abbrev pub value_view : codevalue.FieldValue → Value
@@ -88,7 +96,7 @@ pub record IsByNumber (os sorted : List Occurrence) : Type 0 where
   pub ascends : Ascends 0 sorted
 
 -- What was told of records: their values by numbers, and what is unknown.
-pub record IsTold (declared : FieldsByNumber) (fs : decoded.Fields) (os : List Occurrence)
-    (us : List Unknown) : Type 0 where
-  pub by_number : IsByNumber (occurrences declared fs) os
-  pub unknown : us ≡ unknown_among declared fs
+pub record IsTold (files : List FileDescriptor) (declared : FieldsByNumber) (fs : decoded.Fields)
+    (os : List Occurrence) (us : List Unknown) : Type 0 where
+  pub by_number : IsByNumber (occurrences files declared fs) os
+  pub unknown : us ≡ unknown_among files declared fs

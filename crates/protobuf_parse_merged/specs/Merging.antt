@@ -112,17 +112,18 @@ with_fields fields unknown = do
   Some (a_message (fields_of items) unknown)
 
 -- a message of fields that are declared so
-abbrev pub message_of : Inner → FieldsByNumber → decoded.Fields → Answer Message
-message_of inner declared fs =
-    with_fields (fields_below inner declared (occurrences declared fs) (2 ^ 32))
-    (unknown_among declared fs)
+abbrev pub message_of : List FileDescriptor → Inner → FieldsByNumber → decoded.Fields
+    → Answer Message
+message_of files inner declared fs =
+    with_fields (fields_below inner declared (occurrences files declared fs) (2 ^ 32))
+    (unknown_among files declared fs)
 
 -- What is left of records, as the message of that name, of at most so many levels of messages and
 -- groups, itself one.
 unfoldable pub merged_within : List FileDescriptor → (levels : ℕ) → Inner
 merged_within files zero name fs = None
 merged_within files (suc levels) name fs =
-    message_of (merged_within files levels) (declared_in files name) fs
+    message_of files (merged_within files levels) (declared_in files name) fs
 
 -- what is left of the fields of a message, by the files that declare it
 abbrev pub merged_message : List FileDescriptor → (name : Text) → decoded.Fields → Answer Message

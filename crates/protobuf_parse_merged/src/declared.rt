@@ -1,7 +1,7 @@
 //! What files declare of a message's fields.
 
 ghost use Rattle.std.specs.Prelude.{◌≡◌, map, option_map};
-ghost use Rattle.std.specs.Option.{option_copied};
+ghost use Rattle.std.specs.Option.{option_and_then, option_copied};
 ghost use Rattle.protobuf_parse_model.specs.Descriptors.{field_view, file_view, message_view};
 ghost use Rattle.protobuf_parse_decode.specs.Declarations as decode;
 ghost use Rattle.protobuf_parse_merged.specs.Declarations as spec;
@@ -11,6 +11,7 @@ use protobuf_parse_index::Index;
 use protobuf_parse_model::{
     DescriptorProto, FieldDescriptorProto, FieldType, FileDescriptorProto, Label,
 };
+use protobuf_parse_wire::ReadValue;
 
 /// What merging asks of a field's declaration.
 #[derive(Clone, Copy)]
@@ -19,7 +20,7 @@ pub struct Declared<'i> {
     /// Whether a zero says no more than that nothing is there.
     pub implicit: bool,
     /// The position of its oneof.
-    pub oneof: Option<i32>,
+    pub oneof: Option<u32>,
     /// The message or the enum that it holds.
     pub type_name: &'i str,
     /// Whether that is a closed enum.
@@ -39,11 +40,15 @@ pub fn declaration_of<'i>(index: &Index<'i>, message: &str, number: u32) -> Opti
     }
     match index.field(message, number as i32) {
         None => None,
-        Some(field) => Some(declared(index, message, field)),
+        Some(field) => Some(declaration(index, message, field)),
     }
 }
 
-fn declared<'i>(index: &Index<'_>, message: &str, field: &'i FieldDescriptorProto) -> Declared<'i>
+fn declaration<'i>(
+    index: &Index<'_>,
+    message: &str,
+    field: &'i FieldDescriptorProto,
+) -> Declared<'i>
     ensures { declared_view result
         ≡ spec.declaration (map file_view index.now) message.now (field_view field.now) }
 {
@@ -52,10 +57,19 @@ fn declared<'i>(index: &Index<'_>, message: &str, field: &'i FieldDescriptorProt
     Declared {
         repeated,
         implicit: is_implicit(index, message, field),
-        oneof: field.oneof_index,
+        oneof: position_of(field.oneof_index),
         type_name,
         closed: is_enum(field.type_) && is_closed(index, type_name),
         is_map: repeated && is_entry_named(index, type_name),
+    }
+}
+
+fn position_of(index: Option<i32>) -> Option<u32>
+    ensures { result ≡ option_and_then spec.position_of index }
+{
+    match index {
+        Some(index) => u32::try_from(index).ok(),
+        None => None,
     }
 }
 
@@ -79,6 +93,13 @@ fn is_closed(index: &Index<'_>, name: &str) -> bool
         Some(enumeration) => !path_in_proto3(index, Some(enumeration.file)),
         None => false,
     }
+}
+
+/// Whether the enum of that name declares the number.
+pub fn is_declared(index: &Index<'_>, name: &str, number: i128) -> bool
+    ensures { result ≡ spec.is_declared (map file_view index.now) name.now number }
+{
+    index.value_read(name, &ReadValue::Number(number)).is_some()
 }
 
 /// Whether the message of that name is the entry of a map.

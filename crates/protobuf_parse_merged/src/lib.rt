@@ -8,6 +8,7 @@ mod message;
 mod occurrences;
 mod runs;
 mod scalars;
+mod strays;
 
 pub use fault::MergeError;
 pub use merging::merged;

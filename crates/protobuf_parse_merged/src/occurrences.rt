@@ -1,19 +1,21 @@
 //! The values of a message's fields where they stand.
 
 ghost use Rattle.std.specs.Prelude.{◌≡◌, ◌++◌, map, IfOk, OnOk};
+ghost use Rattle.std.specs.Option.{option_to_list};
 ghost use Rattle.protobuf_parse_model.specs.Descriptors.{file_view};
-ghost use Rattle.protobuf_parse_decode.specs.Inside.{meaning_view, value_view, values_view};
+ghost use Rattle.protobuf_parse_decode.specs.Inside.{value_view, values_view};
 ghost use Rattle.protobuf_parse_decode.specs.Views.{field_view, fields_view};
 ghost use Rattle.protobuf_parse_merged.specs.Declarations.{declared_in};
 ghost use Rattle.protobuf_parse_merged.specs.Occurrences as spec;
-ghost use Rattle.protobuf_parse_merged.specs.Inside.{IsTold, fields_in, held_in, held_view};
-ghost use Rattle.protobuf_parse_merged.specs.Inside.{occurrence_view};
+ghost use Rattle.protobuf_parse_merged.specs.Inside.{IsTold, declared_view, fields_in, held_in};
+ghost use Rattle.protobuf_parse_merged.specs.Inside.{held_view, occurrence_of, occurrence_view};
 ghost use Rattle.protobuf_parse_merged.specs.Merging.{joined};
 ghost use Rattle.protobuf_parse_merged.specs.Views.{unknown_view};
 
-use crate::declared::declaration_of;
+use crate::declared::{Declared, declaration_of};
 use crate::message::Unknown;
 use crate::runs::sort_by_number;
+use crate::strays::stray;
 use protobuf_parse_decode::{DecodedField, Meaning, Value};
 use protobuf_parse_index::Index;
 use std::alloc::{AllocError, Global};
@@ -41,6 +43,8 @@ pub enum Held<'r, 'a> {
 #[derive(Clone, Copy)]
 pub struct Occurrence<'r, 'a> {
     pub number: u32,
+    /// The position of the field's oneof.
+    pub oneof: Option<u32>,
     pub held: Held<'r, 'a>,
 }
 
@@ -55,11 +59,13 @@ pub fn tell_fields<'r, 'a>(
 ) -> Result<(), AllocError>
     ensures occurrences { OnOk result (map occurrence_view occurrences.new.items
         ≡ map occurrence_view occurrences.old.items
-        ++ spec.occurrences (declared_in (map file_view index.now) message.now)
+        ++ spec.occurrences (map file_view index.now)
+        (declared_in (map file_view index.now) message.now)
         (fields_view fields.now)) }
     ensures unknown { OnOk result (map unknown_view unknown.new.items
         ≡ map unknown_view unknown.old.items
-        ++ spec.unknown_among (declared_in (map file_view index.now) message.now)
+        ++ spec.unknown_among (map file_view index.now)
+        (declared_in (map file_view index.now) message.now)
         (fields_view fields.now)) }
 {
     'fields: for field in fields {
@@ -78,12 +84,12 @@ fn tell_field<'r, 'a>(
 ) -> Result<(), AllocError>
     ensures occurrences { OnOk result (map occurrence_view occurrences.new.items
         ≡ map occurrence_view occurrences.old.items
-        ++ spec.occurrences_of (declared_in (map file_view index.now) message.now
-        (field_view field.now).number) (field_view field.now).number
+        ++ spec.occurrences_of (map file_view index.now) (declared_in (map file_view index.now) message.now
+        (field_view field.now).number) (field_view field.now).number (field_view field.now).whole
         (field_view field.now).meaning) }
     ensures unknown { OnOk result (map unknown_view unknown.new.items
         ≡ map unknown_view unknown.old.items
-        ++ spec.unknown_of (declared_in (map file_view index.now) message.now
+        ++ spec.unknown_of (map file_view index.now) (declared_in (map file_view index.now) message.now
         (field_view field.now).number) (field_view field.now).number (field_view field.now).whole
         (field_view field.now).meaning) }
 {
@@ -91,7 +97,7 @@ fn tell_field<'r, 'a>(
         Meaning::Unknown => put_unknown(field, unknown),
         Meaning::Known(values) => match declaration_of(index, message, field.number) {
             None => put_unknown(field, unknown),
-            Some(_) => tell_values(field.number, values, occurrences),
+            Some(declared) => { tell_values(index, declared, field, values, occurrences, unknown) }
         },
     }
 }
@@ -111,22 +117,61 @@ fn put_unknown<'a>(
     Ok(())
 }
 
+/// The same of values of the field.
 fn tell_values<'r, 'a>(
-    number: u32,
+    index: &Index<'_>,
+    declared: Declared<'_>,
+    field: &DecodedField<'a>,
     values: &'r [Value<'a>],
     occurrences: &mut Vec<Occurrence<'r, 'a>>,
+    unknown: &mut Vec<Unknown<'a>>,
 ) -> Result<(), AllocError>
-    ensures { OnOk result (map occurrence_view occurrences.new.items
+    ensures occurrences { OnOk result (map occurrence_view occurrences.new.items
         ≡ map occurrence_view occurrences.old.items
-        ++ spec.each_of number (spec.all_held (values_view values.now))) }
+        ++ spec.occurrences_in (map file_view index.now) (declared_view declared.entry)
+        (field_view field.now).number (field_view field.now).whole (values_view values.now)) }
+    ensures unknown { OnOk result (map unknown_view unknown.new.items
+        ≡ map unknown_view unknown.old.items
+        ++ spec.strays_in (map file_view index.now) (declared_view declared.entry)
+        (field_view field.now).number (field_view field.now).whole (values_view values.now)) }
 {
     'values: for value in values {
-        occurrences.push(Occurrence {
-            number,
-            held: held_of(value),
-        })?;
+        tell_value(index, declared, field, value, occurrences, unknown)?;
     }
     Ok(())
+}
+
+fn tell_value<'r, 'a>(
+    index: &Index<'_>,
+    declared: Declared<'_>,
+    field: &DecodedField<'a>,
+    value: &'r Value<'a>,
+    occurrences: &mut Vec<Occurrence<'r, 'a>>,
+    unknown: &mut Vec<Unknown<'a>>,
+) -> Result<(), AllocError>
+    ensures occurrences { OnOk result (map occurrence_view occurrences.new.items
+        ≡ map occurrence_view occurrences.old.items
+        ++ occurrence_of (map file_view index.now) (declared_view declared.entry)
+        (field_view field.now).number (field_view field.now).whole (value_view value.now)) }
+    ensures unknown { OnOk result (map unknown_view unknown.new.items
+        ≡ map unknown_view unknown.old.items
+        ++ option_to_list (spec.stray (map file_view index.now) (declared_view declared.entry)
+        (field_view field.now).number (field_view field.now).whole (value_view value.now))) }
+{
+    match stray(index, declared, field, value) {
+        Some(other) => {
+            unknown.push(other)?;
+            Ok(())
+        }
+        None => {
+            occurrences.push(Occurrence {
+                number: field.number,
+                oneof: declared.oneof,
+                held: held_of(value),
+            })?;
+            Ok(())
+        }
+    }
 }
 
 fn held_of<'r, 'a>(value: &'r Value<'a>) -> Held<'r, 'a>
@@ -162,7 +207,8 @@ pub fn told_of<'r, 'a>(
     message: &str,
     fields: &'r [DecodedField<'a>],
 ) -> Result<Told<'r, 'a>, AllocError>
-    ensures { IfOk result (λ told. IsTold (declared_in (map file_view index.now) message.now)
+    ensures { IfOk result (λ told. IsTold (map file_view index.now)
+        (declared_in (map file_view index.now) message.now)
         (fields_view fields.now) (map occurrence_view told.occurrences.items)
         (map unknown_view told.unknown.items)) }
 {
@@ -183,7 +229,8 @@ pub fn told_of_all<'r, 'a>(
     message: &str,
     run: &[Occurrence<'r, 'a>],
 ) -> Result<Told<'r, 'a>, AllocError>
-    ensures { IfOk result (λ told. IsTold (declared_in (map file_view index.now) message.now)
+    ensures { IfOk result (λ told. IsTold (map file_view index.now)
+        (declared_in (map file_view index.now) message.now)
         (joined (held_in (map occurrence_view run.now)))
         (map occurrence_view told.occurrences.items) (map unknown_view told.unknown.items)) }
 {
@@ -215,11 +262,13 @@ fn tell_held<'r, 'a>(
 ) -> Result<(), AllocError>
     ensures occurrences { OnOk result (map occurrence_view occurrences.new.items
         ≡ map occurrence_view occurrences.old.items
-        ++ spec.occurrences (declared_in (map file_view index.now) message.now)
+        ++ spec.occurrences (map file_view index.now)
+        (declared_in (map file_view index.now) message.now)
         (fields_in (held_view held.entry))) }
     ensures unknown { OnOk result (map unknown_view unknown.new.items
         ≡ map unknown_view unknown.old.items
-        ++ spec.unknown_among (declared_in (map file_view index.now) message.now)
+        ++ spec.unknown_among (map file_view index.now)
+        (declared_in (map file_view index.now) message.now)
         (fields_in (held_view held.entry))) }
 {
     match held {

@@ -16,49 +16,52 @@ use Rattle.protobuf_parse_merged.proofs.occurrences.tell_fields.Goals as goal
 
 pub fields-preserved : goal.fields-preserved
 fields-preserved c =
-    let declared = declared_in (map file_view c.args.index.now) c.args.message.now in
+    let files = map file_view c.args.index.now in
+    let declared = declared_in files c.args.message.now in
     let xs : List DecodedField = c.args.fields.now in
     let i = c.fields.field-index in
     let x : DecodedField = c.field-item.result in
     let next = next_field xs i x c.fields-test.true c.field-item.is in
     let rest : Fields = fields_view (drop (i + 1) xs) in (
-      ap (λ (os : List Occurrence). os ++ spec.occurrences declared rest)
+      ap (λ (os : List Occurrence). os ++ spec.occurrences files declared rest)
           c.in_ok-tell_field.ensures.occurrences
-          ∙ values_more declared (map occurrence_view c.fields.occurrences.items) (field_view x) rest
+          ∙ values_more files declared (map occurrence_view c.fields.occurrences.items) (field_view x) rest
           _
           (subst (λ (fs : Fields). map occurrence_view c.fields.occurrences.items
-          ++ spec.occurrences declared fs
+          ++ spec.occurrences files declared fs
           ≡ map occurrence_view c.args.occurrences.now.items
-          ++ spec.occurrences declared (fields_view xs)) next c.fields.invariant.0),
-      ap (λ (us : List Unknown). us ++ spec.unknown_among declared rest)
+          ++ spec.occurrences files declared (fields_view xs)) next c.fields.invariant.0),
+      ap (λ (us : List Unknown). us ++ spec.unknown_among files declared rest)
           c.in_ok-tell_field.ensures.unknown
-          ∙ unknown_more declared (map unknown_view c.fields.unknown.items) (field_view x) rest _
+          ∙ unknown_more files declared (map unknown_view c.fields.unknown.items) (field_view x) rest _
           (subst (λ (fs : Fields). map unknown_view c.fields.unknown.items
-          ++ spec.unknown_among declared fs
+          ++ spec.unknown_among files declared fs
           ≡ map unknown_view c.args.unknown.now.items
-          ++ spec.unknown_among declared (fields_view xs)) next c.fields.invariant.1),
+          ++ spec.unknown_among files declared (fields_view xs)) next c.fields.invariant.1),
     )
 
 pub returns-clause-occurrences : goal.returns-clause-occurrences
 returns-clause-occurrences c =
-    let declared = declared_in (map file_view c.args.index.now) c.args.message.now in
+    let files = map file_view c.args.index.now in
+    let declared = declared_in files c.args.message.now in
     let xs : List DecodedField = c.args.fields.now in
     let none : drop c.fields.field-index xs ≡ [] =
     drop_all c.fields.field-index xs c.fields-test.false in
-    no_values declared _ _
+    no_values files declared _ _
     (subst (λ (ys : List DecodedField). map occurrence_view c.fields.occurrences.items
-    ++ spec.occurrences declared (fields_view ys)
+    ++ spec.occurrences files declared (fields_view ys)
     ≡ map occurrence_view c.args.occurrences.now.items
-    ++ spec.occurrences declared (fields_view xs)) none c.fields.invariant.0)
+    ++ spec.occurrences files declared (fields_view xs)) none c.fields.invariant.0)
 
 pub returns-clause-unknown : goal.returns-clause-unknown
 returns-clause-unknown c =
-    let declared = declared_in (map file_view c.args.index.now) c.args.message.now in
+    let files = map file_view c.args.index.now in
+    let declared = declared_in files c.args.message.now in
     let xs : List DecodedField = c.args.fields.now in
     let none : drop c.fields.field-index xs ≡ [] =
     drop_all c.fields.field-index xs c.fields-test.false in
-    nothing_unknown declared _ _
+    nothing_unknown files declared _ _
     (subst (λ (ys : List DecodedField). map unknown_view c.fields.unknown.items
-    ++ spec.unknown_among declared (fields_view ys)
+    ++ spec.unknown_among files declared (fields_view ys)
     ≡ map unknown_view c.args.unknown.now.items
-    ++ spec.unknown_among declared (fields_view xs)) none c.fields.invariant.1)
+    ++ spec.unknown_among files declared (fields_view xs)) none c.fields.invariant.1)

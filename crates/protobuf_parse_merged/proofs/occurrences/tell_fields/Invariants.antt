@@ -10,12 +10,12 @@ use Rattle.protobuf_parse_merged.proofs.occurrences.tell_fields.Given as goal
 abbrev pub invariant-fields : goal.invariant-fields
 invariant-fields l =
     (map occurrence_view l.occurrences.items
-    ++ spec.occurrences (declared_in (map file_view l.index) l.message)
+    ++ spec.occurrences (map file_view l.index) (declared_in (map file_view l.index) l.message)
     (fields_view (drop l.field-index l.fields))
     ≡ map occurrence_view l.initial.occurrences.items
-    ++ spec.occurrences (declared_in (map file_view l.index) l.message) (fields_view l.fields))
+    ++ spec.occurrences (map file_view l.index) (declared_in (map file_view l.index) l.message) (fields_view l.fields))
     × (map unknown_view l.unknown.items
-    ++ spec.unknown_among (declared_in (map file_view l.index) l.message)
+    ++ spec.unknown_among (map file_view l.index) (declared_in (map file_view l.index) l.message)
     (fields_view (drop l.field-index l.fields))
     ≡ map unknown_view l.initial.unknown.items
-    ++ spec.unknown_among (declared_in (map file_view l.index) l.message) (fields_view l.fields))
+    ++ spec.unknown_among (map file_view l.index) (declared_in (map file_view l.index) l.message) (fields_view l.fields))

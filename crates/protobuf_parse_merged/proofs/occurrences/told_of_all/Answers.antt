@@ -16,45 +16,47 @@ use Rattle.protobuf_parse_merged.proofs.occurrences.told_of_all.Goals as goal
 
 pub run-preserved : goal.run-preserved
 run-preserved c =
-    let declared = declared_in (map file_view c.args.index.now) c.args.message.now in
+    let files = map file_view c.args.index.now in
+    let declared = declared_in files c.args.message.now in
     let xs : List code.Occurrence = c.args.run.now in
     let i = c.run.occurrence-index in
     let x : code.Occurrence = c.occurrence-item.result in
     let next = next_message xs i x c.run-test.true c.occurrence-item.is in
     let one = fields_in (held_view x.held) in
     let rest = joined (held_in (map occurrence_view (drop (i + 1) xs))) in (
-      ap (λ (os : List Occurrence). os ++ spec.occurrences declared rest)
+      ap (λ (os : List Occurrence). os ++ spec.occurrences files declared rest)
           c.in_ok-tell_held.ensures.occurrences
           ∙ told_more (map occurrence_view c.run.occurrences.items)
-          (spec.occurrences declared one) (spec.occurrences declared rest) _ _
+          (spec.occurrences files declared one) (spec.occurrences files declared rest) _ _
           c.run.invariant.0
-          (ap (spec.occurrences declared) next ∙ values_join declared one rest),
-      ap (λ (us : List Unknown). us ++ spec.unknown_among declared rest)
+          (ap (spec.occurrences files declared) next ∙ values_join files declared one rest),
+      ap (λ (us : List Unknown). us ++ spec.unknown_among files declared rest)
           c.in_ok-tell_held.ensures.unknown
           ∙ told_more (map unknown_view c.run.unknown.items)
-          (spec.unknown_among declared one) (spec.unknown_among declared rest) _ _
+          (spec.unknown_among files declared one) (spec.unknown_among files declared rest) _ _
           c.run.invariant.1
-          (ap (spec.unknown_among declared) next ∙ unknown_join declared one rest),
+          (ap (spec.unknown_among files declared) next ∙ unknown_join files declared one rest),
     )
 
 pub returns : goal.returns
 returns c =
-    let declared = declared_in (map file_view c.args.index.now) c.args.message.now in
+    let files = map file_view c.args.index.now in
+    let declared = declared_in files c.args.message.now in
     let xs : List code.Occurrence = c.args.run.now in
     let none : drop c.run.occurrence-index xs ≡ [] =
     drop_all c.run.occurrence-index xs c.run-test.false in
-    let values = no_values declared _ _
+    let values = no_values files declared _ _
     (subst (λ (ys : List code.Occurrence). map occurrence_view c.run.occurrences.items
-    ++ spec.occurrences declared (joined (held_in (map occurrence_view ys)))
-    ≡ spec.occurrences declared (joined (held_in (map occurrence_view xs)))) none
+    ++ spec.occurrences files declared (joined (held_in (map occurrence_view ys)))
+    ≡ spec.occurrences files declared (joined (held_in (map occurrence_view xs)))) none
     c.run.invariant.0) in
     record {
       by_number = subst (λ (os : List Occurrence). IsByNumber os
           (map occurrence_view c.sort_by_number.new.occurrences.items)) values
           c.in_ok-sort_by_number.ensures;
-      unknown = nothing_unknown declared _ _
+      unknown = nothing_unknown files declared _ _
           (subst (λ (ys : List code.Occurrence). map unknown_view c.run.unknown.items
-          ++ spec.unknown_among declared (joined (held_in (map occurrence_view ys)))
-          ≡ spec.unknown_among declared (joined (held_in (map occurrence_view xs)))) none
+          ++ spec.unknown_among files declared (joined (held_in (map occurrence_view ys)))
+          ≡ spec.unknown_among files declared (joined (held_in (map occurrence_view xs)))) none
           c.run.invariant.1);
     }
