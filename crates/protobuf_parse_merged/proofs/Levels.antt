@@ -17,6 +17,7 @@ use Rattle.protobuf_parse_merged.specs.Answers.{Answer, ◌>>=◌, Fails}
 use Rattle.protobuf_parse_merged.specs.Merged.{FieldItem, Unknown, Value, Message, message}
 use Rattle.protobuf_parse_merged.specs.Declarations.{declared_in}
 use Rattle.protobuf_parse_merged.specs.Occurrences.{Held, Occurrence, occurrences, unknown_among}
+use Rattle.protobuf_parse_merged.specs.Oneofs.{counting}
 use Rattle.protobuf_parse_merged.specs.Merging.{Inner, as_one, fields_below, joined}
 use Rattle.protobuf_parse_merged.specs.Merging.{last_of, merged_within, with_fields}
 use Rattle.protobuf_parse_merged.specs.Inside.{IsTold, held_in, held_view, occurrence_view}
@@ -42,7 +43,7 @@ one_level files (suc n) name fs os us some told =
     let k : n ≡ suc n - 1 = omega arith in
     ap (λ (x : Answer (List FieldItem)). with_fields x (unknown_among files (declared_in files name) fs))
     (sym (same_fields (merged_within files n) (declared_in files name)
-    (occurrences files (declared_in files name) fs) os told.by_number.same (2 ^ 32)))
+    (counting (occurrences files (declared_in files name) fs)) os told.by_number.same (2 ^ 32)))
     ∙ ap (λ (unknown : List Unknown). with_fields
     (fields_below (merged_within files n) (declared_in files name) os (2 ^ 32)) unknown)
     (sym told.unknown)

@@ -21,6 +21,7 @@ use Rattle.protobuf_parse_merged.specs.Declarations.{Declared, FieldsByNumber}
 use Rattle.protobuf_parse_merged.specs.Occurrences.{Held, plain, inside, Occurrence}
 use Rattle.protobuf_parse_merged.specs.Occurrences.{held_of, occurrences, stray}
 use Rattle.protobuf_parse_merged.specs.Occurrences.{unknown_among, unless_stray}
+use Rattle.protobuf_parse_merged.specs.Oneofs.{counting}
 use Rattle.protobuf_parse_merged.specs.Merging.{held_at}
 use Rattle.protobuf_parse_merged.specs.Views.{value_step, field_step, message_step}
 
@@ -98,5 +99,5 @@ pub record IsByNumber (os sorted : List Occurrence) : Type 0 where
 -- What was told of records: their values by numbers, and what is unknown.
 pub record IsTold (files : List FileDescriptor) (declared : FieldsByNumber) (fs : decoded.Fields)
     (os : List Occurrence) (us : List Unknown) : Type 0 where
-  pub by_number : IsByNumber (occurrences files declared fs) os
+  pub by_number : IsByNumber (counting (occurrences files declared fs)) os
   pub unknown : us ≡ unknown_among files declared fs

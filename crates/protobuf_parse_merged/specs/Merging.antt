@@ -13,6 +13,7 @@ use Rattle.protobuf_parse_merged.specs.Merged.{Unknown}
 use Rattle.protobuf_parse_merged.specs.Declarations.{Declared, FieldsByNumber, declared_in}
 use Rattle.protobuf_parse_merged.specs.Occurrences.{Held, plain, inside, Occurrence, occurrences}
 use Rattle.protobuf_parse_merged.specs.Occurrences.{unknown_among}
+use Rattle.protobuf_parse_merged.specs.Oneofs.{counting}
 
 -- what is left of such records, as the message of that name
 abbrev pub Inner : Type 0
@@ -115,7 +116,7 @@ with_fields fields unknown = do
 abbrev pub message_of : List FileDescriptor → Inner → FieldsByNumber → decoded.Fields
     → Answer Message
 message_of files inner declared fs =
-    with_fields (fields_below inner declared (occurrences files declared fs) (2 ^ 32))
+    with_fields (fields_below inner declared (counting (occurrences files declared fs)) (2 ^ 32))
     (unknown_among files declared fs)
 
 -- What is left of records, as the message of that name, of at most so many levels of messages and

@@ -6,6 +6,7 @@ mod fault;
 mod merging;
 mod message;
 mod occurrences;
+mod oneofs;
 mod runs;
 mod scalars;
 mod strays;

@@ -14,7 +14,7 @@ ghost use Rattle.protobuf_parse_merged.specs.Views.{unknown_view};
 
 use crate::declared::{Declared, declaration_of};
 use crate::message::Unknown;
-use crate::runs::sort_by_number;
+use crate::runs::by_number;
 use crate::strays::stray;
 use protobuf_parse_decode::{DecodedField, Meaning, Value};
 use protobuf_parse_index::Index;
@@ -215,7 +215,7 @@ pub fn told_of<'r, 'a>(
     let mut occurrences = Vec::new(alloc);
     let mut unknown = Vec::new(alloc);
     tell_fields(index, message, fields, &mut occurrences, &mut unknown)?;
-    sort_by_number(&mut occurrences)?;
+    let occurrences = by_number(alloc, &occurrences)?;
     Ok(Told {
         occurrences,
         unknown,
@@ -245,7 +245,7 @@ pub fn told_of_all<'r, 'a>(
             &mut unknown,
         )?;
     }
-    sort_by_number(&mut occurrences)?;
+    let occurrences = by_number(alloc, &occurrences)?;
     Ok(Told {
         occurrences,
         unknown,

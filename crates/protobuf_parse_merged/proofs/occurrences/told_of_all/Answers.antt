@@ -6,6 +6,7 @@ use Rattle.protobuf_parse_merged.specs.Merged.{Unknown}
 use Rattle.protobuf_parse_merged.specs.Declarations.{declared_in}
 use Rattle.protobuf_parse_merged.specs.Occurrences as spec
 use Rattle.protobuf_parse_merged.specs.Occurrences.{Occurrence}
+use Rattle.protobuf_parse_merged.specs.Oneofs.{counting}
 use Rattle.protobuf_parse_merged.specs.Merging.{joined}
 use Rattle.protobuf_parse_merged.specs.Inside.{IsByNumber, fields_in, held_in, held_view}
 use Rattle.protobuf_parse_merged.specs.Inside.{occurrence_view}
@@ -51,9 +52,10 @@ returns c =
     ≡ spec.occurrences files declared (joined (held_in (map occurrence_view xs)))) none
     c.run.invariant.0) in
     record {
-      by_number = subst (λ (os : List Occurrence). IsByNumber os
-          (map occurrence_view c.sort_by_number.new.occurrences.items)) values
-          c.in_ok-sort_by_number.ensures;
+      by_number = subst (λ (os : List Occurrence). IsByNumber (counting os)
+          (map occurrence_view c.in_ok-occurrences.occurrences.items))
+          (ap (map occurrence_view) c.deref.ensures.value ∙ values)
+          c.in_ok-occurrences.ensures;
       unknown = nothing_unknown files declared _ _
           (subst (λ (ys : List code.Occurrence). map unknown_view c.run.unknown.items
           ++ spec.unknown_among files declared (joined (held_in (map occurrence_view ys)))
