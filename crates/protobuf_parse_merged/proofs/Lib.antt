@@ -5,3 +5,4 @@ pub mod Members
 pub mod Values
 pub mod Grouping
 pub mod Levels
+pub mod Upwards

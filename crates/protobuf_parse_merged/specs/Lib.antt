@@ -4,6 +4,7 @@ pub mod Declarations
 pub mod Occurrences
 pub mod Oneofs
 pub mod Merging
+pub mod Laws
 pub mod Views
 pub mod Inside
 pub mod Behind

@@ -3,6 +3,7 @@
 
 mod declared;
 mod fault;
+mod laws;
 mod merging;
 mod message;
 mod occurrences;
@@ -10,7 +11,10 @@ mod oneofs;
 mod runs;
 mod scalars;
 mod strays;
+#[cfg(test)]
+mod tests;
 
 pub use fault::MergeError;
+pub use laws::{fields_ascend, values_join};
 pub use merging::merged;
 pub use message::{Field, FieldValue, Message, Unknown};

@@ -27,6 +27,27 @@ const MOST_LEVELS: u32 = 100;
 
 /// A message as people mean it: what is left of its records once they are merged. `fields` is what
 /// the decoder gave of the message of that full name, with its first dot: `.shop.Item`.
+///
+/// A repeated field has all its values, in order. Any other field has its last one; several
+/// messages, or groups, of such a field are merged as one. A field with implicit presence, as one of
+/// proto3 without a label, isn't there where its last value is zero, false or empty. Of a oneof only
+/// the member that stands last is there. A number that a closed enum doesn't declare is no value:
+/// it is unknown, as is the entry of a map that has such a value. Entries of maps are as those of
+/// any repeated field, also where several have one key. Where the files of the index don't declare
+/// the message, all of it is unknown.
+///
+/// The time is in proportion to the fields, with the logarithm of their count, and with look-ups for
+/// each. Texts and bytes are not copied.
+///
+/// Errors: `TooDeep` where a hundred messages stand around another, of which the decoder gives none;
+/// `Memory`.
+///
+/// ```text
+/// let fields = decode(alloc, &index, ".shop.Item", &bytes)?;
+/// for field in &merged(alloc, &index, ".shop.Item", &fields)?.fields {
+///     println!(rt; "{} {}", field.number, field.values.len())?;
+/// }
+/// ```
 pub fn merged<'a>(
     alloc: Global,
     index: &Index<'_>,

@@ -16,8 +16,9 @@ pub struct Message<'a> {
 pub struct Field<'a> {
     /// The field's number, from 1 to 2^29 - 1.
     pub number: u32,
-    /// One value, or where the field is repeated one or more. Those of a map are its entries, in
-    /// ascending order of their keys: each is a message with the fields 1 and 2.
+    /// One value, or where the field is repeated one or more, in order. Those of a map are its
+    /// entries, in the order of the records: each is a message with the fields 1 and 2, where a
+    /// missing one means the default of its type. Of entries with one key the last counts.
     pub values: Vec<FieldValue<'a>>,
 }
 
