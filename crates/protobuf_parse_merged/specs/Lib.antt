@@ -1,0 +1,10 @@
+pub mod Answers
+pub mod Merged
+pub mod Declarations
+pub mod Occurrences
+pub mod Oneofs
+pub mod Merging
+pub mod Laws
+pub mod Views
+pub mod Inside
+pub mod Behind
