@@ -1,0 +1,4 @@
+pub mod Pieces
+pub mod Raw
+pub mod Inside
+pub mod Puts
