@@ -1,2 +1,5 @@
 pub mod Appending
 pub mod RawLevels
+pub mod LimbSteps
+pub mod Ratios
+pub mod Counting

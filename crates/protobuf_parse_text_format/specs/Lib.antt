@@ -1,4 +1,7 @@
 pub mod Pieces
 pub mod Raw
+pub mod Decimal
 pub mod Inside
 pub mod Puts
+pub mod Limbs
+pub mod Sizes

@@ -2,6 +2,8 @@
 //! with no descriptors, as `protoc --decode_raw` does.
 #![tactic(auto)]
 
+mod big;
+mod decimal;
 mod pieces;
 mod raw;
 #[cfg(test)]
