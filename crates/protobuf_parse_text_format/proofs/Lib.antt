@@ -2,4 +2,5 @@ pub mod Appending
 pub mod RawLevels
 pub mod LimbSteps
 pub mod Ratios
+pub mod Zeros
 pub mod Counting

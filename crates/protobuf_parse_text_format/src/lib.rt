@@ -4,6 +4,7 @@
 
 mod big;
 mod decimal;
+mod floats;
 mod pieces;
 mod raw;
 #[cfg(test)]
