@@ -5,9 +5,12 @@
 mod big;
 mod decimal;
 mod floats;
+mod labels;
 mod pieces;
 mod raw;
 #[cfg(test)]
 mod tests;
+mod text;
 
 pub use raw::raw_text;
+pub use text::text_format;
