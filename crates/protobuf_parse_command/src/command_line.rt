@@ -211,6 +211,7 @@ fn decode_argument<'a>(alloc: Global) -> Result<Arg<'a>, AllocError> {
 
 fn raw_flag<'a>(alloc: Global) -> Result<Arg<'a>, AllocError> {
     let help = "Reads any message from standard input, and writes it as text, with no FILE";
-    flag(alloc, "decode_raw", help)
-        .conflicts_with_all(&["decode", "set", "text", "list", "imports", "file"])
+    flag(alloc, "decode_raw", help).conflicts_with_all(&[
+        "decode", "set", "text", "list", "imports", "file",
+    ])
 }

@@ -82,7 +82,10 @@ fn message_text(
         Ok(message) => Ok(Ok(text_format(alloc, index, name, &message)?)),
         Err(MergeError::Memory) => Err(AllocError),
         Err(MergeError::TooDeep) => {
-            let message = format!(in alloc; "this is no message `{name}`: {}", MergeError::TooDeep)?;
+            let message = format!(in alloc;
+                "this is no message `{name}`: {}",
+                MergeError::TooDeep
+            )?;
             Ok(Err(input_told(alloc, NO_MESSAGE, message)?))
         }
     }
