@@ -41,7 +41,7 @@ def compared(program, room, words, data):
     if ours == theirs:
         return "the same text" if ours is not None else "both refuse it", None
     if ours is None:
-        fault = told.split(": ", 2)[-1].split("`: ")[-1].removeprefix("this is no message: ")
+        fault = told.partition(": error: this is no ")[2].partition(": ")[2]
         if theirs is not None and made.is_taken(data, fault):
             return "protoc takes it, known", None
     return "differs", f"{' '.join(words)} {data.hex()}:\nprotoc {theirs}\nours {ours} {told}"

@@ -572,10 +572,10 @@ def messages_on_standard_input_are_written_as_text(it):
     decoded(message, "--decode=shop.Item", "item.proto", out=b'title: "cup"\n2: 7\n')
     decoded(message, "--decode_raw", out=b'1: "cup"\n2: 7\n')
     decoded(b"", "--decode=.shop.Item", "item.proto")
-    cut = b"/dev/stdin: error: this is no message%s: byte 0: the bytes end inside a record [L17]\n"
-    decoded(b"\n\x04cup", "--decode_raw", status=1, err=cut % b"")
+    cut = b"/dev/stdin: error: this is no %s: byte 2: the bytes end inside a record [L17]\n"
+    decoded(b"\n\x04cup", "--decode_raw", status=1, err=cut % b"message")
     words = ["--decode=shop.Item", "item.proto"]
-    decoded(b"\n\x04cup", *words, status=1, err=cut % b" `.shop.Item`")
+    decoded(b"\n\x04cup", *words, status=1, err=cut % b"`.shop.Item`")
     err = b"/dev/stdin: error: no file declares the message `Item` [L18]\n"
     decoded(message, "--decode=Item", "item.proto", status=1, err=err)
 

@@ -10,6 +10,9 @@ const FORMATS: [&str; 3] = ["text", "json", "github"];
 
 const COLORS: [&str; 3] = ["auto", "always", "never"];
 
+/// What a command line is, but for `--decode_raw`, which has no FILE.
+const USAGE: &str = "protobuf_parse_cli [OPTIONS] <FILE>...";
+
 /// What stands behind the options.
 const EXAMPLES: &str = "\
 Examples:
@@ -25,6 +28,7 @@ pub fn command_line<'a>(alloc: Global) -> Result<Command<'a>, AllocError> {
         .version("0.1.0")
         .about(about)
         .no_binary_name(true)
+        .override_usage(USAGE)
         .after_help(EXAMPLES)
         .arg(include_argument(alloc))?
         .arg(sets_argument(alloc))?

@@ -74,7 +74,7 @@ fn message_text(
         Ok(fields) => fields,
         Err(DecodeError::Memory) => return Err(AllocError),
         Err(DecodeError::Fault(fault)) => {
-            let message = format!(in alloc; "this is no message `{name}`: {fault}")?;
+            let message = format!(in alloc; "this is no `{name}`: {fault}")?;
             return Ok(Err(input_told(alloc, NO_MESSAGE, message)?));
         }
     };
@@ -82,10 +82,7 @@ fn message_text(
         Ok(message) => Ok(Ok(text_format(alloc, index, name, &message)?)),
         Err(MergeError::Memory) => Err(AllocError),
         Err(MergeError::TooDeep) => {
-            let message = format!(in alloc;
-                "this is no message `{name}`: {}",
-                MergeError::TooDeep
-            )?;
+            let message = format!(in alloc; "this is no `{name}`: {}", MergeError::TooDeep)?;
             Ok(Err(input_told(alloc, NO_MESSAGE, message)?))
         }
     }
