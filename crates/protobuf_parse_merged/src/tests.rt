@@ -9,7 +9,7 @@ use protobuf_parse_model::{FieldDescriptorProto, FieldType, FileDescriptorProto,
 use std::alloc::{AllocError, Global};
 use thiserror::Error;
 
-#[derive(Debug, Error)]
+#[derive(Clone, Copy, Debug, PartialEq, Eq, Error)]
 enum TestError {
     #[error("out of memory")]
     Memory,
@@ -107,12 +107,18 @@ fn enums_of_proto2_are_closed(rt: HostRuntime) -> Result<(), TestError> {
     let alloc = rt.alloc();
     let bytes = [0x30, 0x00, 0x30, 0x05];
     let closed = shown(alloc, "proto2", &bytes)?;
-    assert_eq!(rt; closed.as_str(), "Message { fields: [\
+    assert_eq!(rt;
+        closed.as_str(),
+        "Message { fields: [\
         Field { number: 6, values: [Number { word: 0, number: 0 }] }], \
-        unknown: [Word { number: 6, word: 5 }] }");
+        unknown: [Word { number: 6, word: 5 }] }"
+    );
     let open = shown(alloc, "proto3", &bytes)?;
-    assert_eq!(rt; open.as_str(), "Message { fields: [\
-        Field { number: 6, values: [Number { word: 5, number: 5 }] }], unknown: [] }");
+    assert_eq!(rt;
+        open.as_str(),
+        "Message { fields: [\
+        Field { number: 6, values: [Number { word: 5, number: 5 }] }], unknown: [] }"
+    );
     Ok(())
 }
 
