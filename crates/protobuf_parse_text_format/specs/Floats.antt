@@ -1,7 +1,7 @@
 -- Floats as text: a double as `%.15g` of C prints it, or as `%.17g` does where that text is read as
--- another double; a float as `%.6g`, or as `%.9g`. The bits are those of IEEE 754, "Binary
+-- another double; a float as `%.6g`, or else as `%.9g`. The bits are those of IEEE 754, "Binary
 -- interchange formats".
-use Rattle.std.specs.Prelude.{ℕ, ◌+◌, ◌-◌, ◌*◌, ◌/◌, ◌%◌, ◌^◌, ◌==◌, nat_lt, nat_le, Bool, true}
+use Rattle.std.specs.Prelude.{ℕ, ◌+◌, ◌-◌, ◌*◌, ◌/◌, ◌%◌, ◌^◌, ◌==◌, ◌&&◌, nat_lt, nat_le, Bool, true}
 use Rattle.std.specs.Prelude.{false, List, [], ◌∷◌, ◌++◌, codes, decimal, length, replicate, take}
 use Rattle.std.specs.Prelude.{drop, if◌then◌else◌}
 use Rattle.std.specs.Float.{binary32, binary64}
@@ -58,13 +58,26 @@ printed count low n = laid_out count low (decimal (first_digits count n))
 
 -- ---- the bits of floats
 
--- whether a text is read as the float with these bits
+-- whether a text is read as the float of the format with these bits
 abbrev pub reads_as : Format → Text → ℕ → Bool
 reads_as f text bits = option_map_or (λ x. to_bits f x == bits) (parse_float f text) false
 
--- the number n * 10^-low, whose bits are these: in the fewer digits, if they are read as it
-abbrev pub size_text : Format → (fewer more low n bits : ℕ) → Text
-size_text f fewer more low n bits = if reads_as f (printed fewer low n) bits
+-- whether the fewer digits of a float or a double are enough, by their text and its bits
+abbrev pub Enough : Type 0
+Enough = Text → ℕ → Bool
+
+-- Of a float below 2^-126 none are: C's `strtof` reads such a text, but says that it is out of
+-- range.
+abbrev pub enough_of_float : Enough
+enough_of_float text bits = nat_le (2 ^ 23) bits && reads_as binary32 text bits
+
+-- of a double
+abbrev pub enough_of_double : Enough
+enough_of_double text bits = reads_as binary64 text bits
+
+-- the number n * 10^-low, whose bits are these: in the fewer digits, if they are enough
+abbrev pub size_text : Enough → (fewer more low n bits : ℕ) → Text
+size_text enough fewer more low n bits = if enough (printed fewer low n) bits
     then printed fewer low n else printed more low n
 
 -- a sign
@@ -88,22 +101,22 @@ size_of hidden low exponent fraction =
     significand hidden exponent fraction * 2 ^ (exponent - 1) * 5 ^ low
 
 -- a size, by its bits, of which the hidden one would be the next above the fraction
-abbrev pub finite_text : Format → (hidden low fewer more : ℕ) → ℕ → Text
-finite_text f hidden low fewer more bits = if bits == 0 then codes "0"
-    else size_text f fewer more low (size_of hidden low (bits / hidden) (bits % hidden)) bits
+abbrev pub finite_text : Enough → (hidden low fewer more : ℕ) → ℕ → Text
+finite_text enough hidden low fewer more bits = if bits == 0 then codes "0"
+    else size_text enough fewer more low (size_of hidden low (bits / hidden) (bits % hidden)) bits
 
 -- a float, by its sign and the other bits; floats with the last exponent are no numbers
-abbrev pub bits_text : Format → (hidden last low fewer more : ℕ) → Bool → ℕ → Text
-bits_text f hidden last low fewer more negative bits =
+abbrev pub bits_text : Enough → (hidden last low fewer more : ℕ) → Bool → ℕ → Text
+bits_text enough hidden last low fewer more negative bits =
     if bits / hidden == last then special_text negative (bits % hidden == 0)
-    else sign negative ++ finite_text f hidden low fewer more bits
+    else sign negative ++ finite_text enough hidden low fewer more bits
 
 -- the text of a float's bits
 unfoldable pub float_text : ℕ → Text
 float_text bits =
-    bits_text binary32 (2 ^ 23) 255 149 6 9 (nat_le (2 ^ 31) bits) (bits % 2 ^ 31)
+    bits_text enough_of_float (2 ^ 23) 255 149 6 9 (nat_le (2 ^ 31) bits) (bits % 2 ^ 31)
 
 -- the text of a double's bits
 unfoldable pub double_text : ℕ → Text
 double_text bits =
-    bits_text binary64 (2 ^ 52) 2047 1074 15 17 (nat_le (2 ^ 63) bits) (bits % 2 ^ 63)
+    bits_text enough_of_double (2 ^ 52) 2047 1074 15 17 (nat_le (2 ^ 63) bits) (bits % 2 ^ 63)

@@ -2,7 +2,6 @@
 
 ghost use Rattle.std.specs.Prelude.{◌≡◌, ◌+◌, ◌<◌, ◌≤◌, ◌^◌, ◌++◌, IfOk, IsAscii, codes, drop, length};
 ghost use Rattle.std.specs.Prelude.{replicate, take};
-ghost use Rattle.std.specs.Float.{binary32, binary64};
 ghost use Rattle.std.specs.String.{string_bytes};
 ghost use Rattle.protobuf_parse_base.specs.Characters as char;
 ghost use Rattle.protobuf_parse_text_format.specs.Floats as spec;
@@ -132,19 +131,22 @@ fn printed(alloc: Global, size: Size, count: u64) -> Result<String, AllocError>
     Ok(text)
 }
 
-/// Whether the text is read as the float with these bits.
-fn is_float(text: &str, bits: u32) -> bool
-    ensures { result ≡ spec.reads_as binary32 text.now bits }
+/// Whether the text has enough digits for the float with these bits.
+fn is_enough_for_float(text: &str, bits: u32) -> bool
+    ensures { result ≡ spec.enough_of_float text.now bits }
 {
+    if bits < 0x80_0000 {
+        return false;
+    }
     match fast_float::parse::<f32, _>(text.as_bytes()) {
         Ok(float) => f32_to_bits_with_nan(float) == bits,
         Err(_) => false,
     }
 }
 
-/// Whether the text is read as the double with these bits.
-fn is_double(text: &str, bits: u64) -> bool
-    ensures { result ≡ spec.reads_as binary64 text.now bits }
+/// Whether the text has enough digits for the double with these bits.
+fn is_enough_for_double(text: &str, bits: u64) -> bool
+    ensures { result ≡ spec.enough_of_double text.now bits }
 {
     match fast_float::parse::<f64, _>(text.as_bytes()) {
         Ok(double) => f64_to_bits_with_nan(double) == bits,
@@ -156,10 +158,10 @@ fn is_double(text: &str, bits: u64) -> bool
 fn float_size_text(alloc: Global, size: Size, bits: u32) -> Result<String, AllocError>
     requires { IsFloatSize size }
     ensures { IfOk result
-        (λ s. string_bytes s ≡ spec.size_text binary32 6 9 size.fives (units_of size) bits) }
+        (λ s. string_bytes s ≡ spec.size_text spec.enough_of_float 6 9 size.fives (units_of size) bits) }
 {
     let text = printed(alloc, size, 6)?;
-    if is_float(&text, bits) {
+    if is_enough_for_float(&text, bits) {
         return Ok(text);
     }
     printed(alloc, size, 9)
@@ -169,10 +171,10 @@ fn float_size_text(alloc: Global, size: Size, bits: u32) -> Result<String, Alloc
 fn double_size_text(alloc: Global, size: Size, bits: u64) -> Result<String, AllocError>
     requires { IsFloatSize size }
     ensures { IfOk result
-        (λ s. string_bytes s ≡ spec.size_text binary64 15 17 size.fives (units_of size) bits) }
+        (λ s. string_bytes s ≡ spec.size_text spec.enough_of_double 15 17 size.fives (units_of size) bits) }
 {
     let text = printed(alloc, size, 15)?;
-    if is_double(&text, bits) {
+    if is_enough_for_double(&text, bits) {
         return Ok(text);
     }
     printed(alloc, size, 17)
@@ -222,7 +224,7 @@ fn put_special(text: &mut String, negative: bool, zero: bool) -> Result<(), Allo
 fn put_finite_float(alloc: Global, text: &mut String, bits: u32) -> Result<(), AllocError>
     requires { bits < 0x7f80_0000 }
     ensures { Puts result text.old text.new
-        (spec.finite_text binary32 (2 ^ 23) 149 6 9 bits) }
+        (spec.finite_text spec.enough_of_float (2 ^ 23) 149 6 9 bits) }
 {
     if bits == 0 {
         return text.push_str("0");
@@ -238,7 +240,7 @@ fn put_finite_float(alloc: Global, text: &mut String, bits: u32) -> Result<(), A
 fn put_finite_double(alloc: Global, text: &mut String, bits: u64) -> Result<(), AllocError>
     requires { bits < 0x7ff0_0000_0000_0000 }
     ensures { Puts result text.old text.new
-        (spec.finite_text binary64 (2 ^ 52) 1074 15 17 bits) }
+        (spec.finite_text spec.enough_of_double (2 ^ 52) 1074 15 17 bits) }
 {
     if bits == 0 {
         return text.push_str("0");
