@@ -65,7 +65,8 @@ some_is a b h = cc
 -- ---- messages and fields by the files
 
 -- a message that is declared, with its fields
-record Entered (files : List FileDescriptor) (name : Text) (declared : FieldsByNumber) : Type 0 where
+record Entered (files : List FileDescriptor) (name : Text) (declared : FieldsByNumber)
+    : Type 0 where
   pub message : Standing MessageDescriptor
   pub found : message_named files name ≡ Some message
   pub fields : declared_in files name ≡ declared

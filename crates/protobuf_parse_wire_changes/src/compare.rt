@@ -19,10 +19,10 @@ use std::alloc::{AllocError, Global};
 /// What changed of fields, and of extensions, so that readers of the new files may not read what
 /// was written by the old ones.
 ///
-/// Messages go together that have one full name. Where the new files have none of a message's name,
-/// it goes with the one to which a field leads: two fields of one number, of messages that go
-/// together, hold the two. So a renamed message is followed, and the entries of a renamed map are. A
-/// message of the old files goes with one at most, with the first that is found.
+/// Messages go together that have one full name. Where the new files have none of a message's
+/// name, it goes with the one to which a field leads: two fields of one number, of messages that go
+/// together, hold the two. So a renamed message is followed, and the entries of a renamed map are.
+/// A message of the old files goes with one at most, with the first that is found.
 ///
 /// Only numbers that both messages declare are told; of those that one message declares several
 /// times, what `decode` reads counts, and it is told as many times. Labels, names, defaults and
@@ -69,11 +69,11 @@ pub fn wire_changes<'a>(
 /// nothing.
 ///
 /// If so, take any message of the old files and the one that goes with it, as `wire_changes` says,
-/// and any bytes. If `decode` reads them by the old files, and no field is unknown there that the new
-/// files declare, it reads them by the new files too: the same records with the same bytes, in the
-/// same order. Numbers that the new message doesn't declare are unknown. All other values stay, but
-/// for numbers as `strength` says, and for texts, which are told as bytes where the new field needn't
-/// be UTF-8.
+/// and any bytes. If `decode` reads them by the old files, and no field is unknown there that the
+/// new files declare, it reads them by the new files too: the same records with the same bytes, in
+/// the same order. Numbers that the new message doesn't declare are unknown. All other values stay,
+/// but for numbers as `strength` says, and for texts, which are told as bytes where the new field
+/// needn't be UTF-8.
 ///
 /// The one error is that memory is short.
 ///

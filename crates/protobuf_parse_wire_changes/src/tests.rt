@@ -1,6 +1,6 @@
 //! Fields that change, messages that are renamed, and extensions.
 
-use crate::{Strength, reads_on, wire_changes};
+use crate::{Strength, WireChange, reads_on, wire_changes};
 use protobuf_parse_index::{Index, empty_field, empty_file, empty_message};
 use protobuf_parse_model::{
     DescriptorProto, FieldDescriptorProto, FieldType, FileDescriptorProto, Label,
@@ -64,18 +64,24 @@ fn new_file(alloc: Global) -> Result<FileDescriptorProto, AllocError> {
     Ok(file)
 }
 
+fn line(alloc: Global, change: &WireChange<'_>) -> Result<String, AllocError> {
+    let from = change.old_message;
+    let to = change.message;
+    let number = change.number;
+    let kind = change.kind;
+    format!(in alloc; "{from} {to} {number} {kind:?}\n")
+}
+
 fn told(alloc: Global, strength: Strength) -> Result<String, AllocError> {
     let old_files = [old_file(alloc)?];
     let new_files = [new_file(alloc)?];
     let old = Index::of(alloc, &old_files)?;
     let new = Index::of(alloc, &new_files)?;
+    let changes = wire_changes(alloc, strength, &old, &new)?;
     let mut text = String::new(alloc);
-    for change in &wire_changes(alloc, strength, &old, &new)? {
-        let line = format!(in alloc;
-            "{} {} {} {:?}\n",
-            change.old_message, change.message, change.number, change.kind
-        )?;
-        text.push_str(&line)?;
+    for change in &changes {
+        let told = line(alloc, change)?;
+        text.push_str(&told)?;
     }
     Ok(text)
 }
@@ -83,10 +89,16 @@ fn told(alloc: Global, strength: Strength) -> Result<String, AllocError> {
 #[test]
 fn changes_are_told(rt: HostRuntime) -> Result<(), AllocError> {
     let alloc = rt.alloc();
-    let exact =
-        ".M .M 1 OtherKind\n.M .M 2 BytesBecameText\n.M .M 4 OtherMessage\n.M .M 5 OtherKind\n.A .B 1 OtherKind\n.M .M 9 OtherKind\n";
-    let family =
-        ".M .M 1 NotRepeated\n.M .M 2 BytesBecameText\n.M .M 4 OtherMessage\n.M .M 5 OtherKind\n";
+    let exact = ".M .M 1 OtherKind\n\
+        .M .M 2 BytesBecameText\n\
+        .M .M 4 OtherMessage\n\
+        .M .M 5 OtherKind\n\
+        .A .B 1 OtherKind\n\
+        .M .M 9 OtherKind\n";
+    let family = ".M .M 1 NotRepeated\n\
+        .M .M 2 BytesBecameText\n\
+        .M .M 4 OtherMessage\n\
+        .M .M 5 OtherKind\n";
     assert_eq!(rt; told(alloc, Strength::Exact)?.as_str(), exact);
     assert_eq!(rt; told(alloc, Strength::Family)?.as_str(), family);
     Ok(())
