@@ -5,12 +5,14 @@
 
 makes random schemas and messages of them, as decode_beside_python.py does, whole ones and damaged
 ones, and has `protoc --decode` and PROGRAM, which is the command, write each as text, by its schema
-and with --decode_raw. The texts must have the same bytes, or both must refuse the message, but for
-what protoc is known to take (`is_taken`) and the command tells with its byte. It wants `protoc` and
-Python's package. The status is 1 where something differs."""
+and with --decode_raw. The texts must have the same bytes, or say the same message where it has maps,
+whose entries protoc sorts; or both must refuse it, but for what protoc is known to take (`is_taken`)
+and the command tells with its byte. It wants `protoc` and Python's package. The status is 1 where
+something differs."""
 
 import argparse
 import random
+import re
 import subprocess
 import sys
 import tempfile
@@ -22,6 +24,7 @@ TOP = Path(__file__).resolve().parents[2]
 sys.path.insert(0, str(TOP / "scripts/checks"))
 
 import decode_beside_python as made
+from google.protobuf import text_format
 
 PROGRAM = TOP / "crates/protobuf_parse_cli/out/protobuf_parse_cli"
 AT_ONCE = 4
@@ -33,13 +36,38 @@ def answer(words, data):
     return done.stdout if done.returncode == 0 else None, done.stderr.decode(errors="replace")
 
 
-def compared(program, room, words, data):
+def says(text, factory):
+    """The message that a text says, but for what is unknown."""
+    pool = factory.DESCRIPTOR.file.pool
+    said = text.decode("ascii")
+    return text_format.Parse(said, factory(), allow_unknown_field=True, descriptor_pool=pool)
+
+
+def is_same(ours, theirs, factory):
+    """Whether two texts say the same message, or have the same lines where Python can't read them."""
+    try:
+        return says(ours, factory) == says(theirs, factory)
+    except text_format.ParseError:
+        return sorted(ours.splitlines()) == sorted(theirs.splitlines())
+
+
+def has_wide_tag(ours, theirs):
+    """Whether protoc took bytes for records though a tag has more than 32 bits, which it cuts."""
+    only = set(ours.splitlines()) - set(theirs.splitlines())
+    return all(re.search(rb': "([^"\\]|\\.)*(\\[23][0-7]{2}){5}', it) for it in only)
+
+
+def compared(program, room, factory, words, data):
     """What came of one message, and what is wrong."""
     theirs, _ = answer(["protoc", f"-I{room}", *words], data)
     options = ["--rules=off", f"-I{room}"] if len(words) > 1 else []
     ours, told = answer([program, *options, *words], data)
     if ours == theirs:
         return "the same text" if ours is not None else "both refuse it", None
+    if None not in (ours, theirs) and len(words) > 1 and is_same(ours, theirs, factory):
+        return "the same message, with maps in another order", None
+    if None not in (ours, theirs) and len(words) == 1 and has_wide_tag(ours, theirs):
+        return "protoc takes a tag of more than 32 bits", None
     if ours is None:
         fault = told.partition(": error: this is no ")[2].partition(": ")[2]
         if theirs is not None and made.is_taken(data, fault):
@@ -53,7 +81,7 @@ def tries(choose, program, room):
     messages = [made.bytes_of(choose, factory) for _ in range(made.OF_ONE)]
     each = [(words, data) for data in messages for words in (["--decode=p.M", "f.proto"], ["--decode_raw"])]
     with ThreadPoolExecutor(AT_ONCE) as pool:
-        return list(pool.map(lambda it: compared(program, room, *it), each))
+        return list(pool.map(lambda it: compared(program, room, factory, *it), each))
 
 
 def main():
