@@ -1,6 +1,6 @@
 -- Parts appended one after another.
-use Rattle.std.proofs.Common.{◌≡◌, ◌∙◌, ℕ, ◌+◌, ◌<◌, ◌≤◌, List, [], ◌∷◌, ◌++◌, ap, sym, refl}
-use Rattle.std.proofs.Common.{append_assoc, flat_map, get_or, length, map, take}
+use Rattle.std.proofs.Common.{◌≡◌, ◌∙◌, ℕ, ◌+◌, ◌<◌, ◌≤◌, List, [], ◌∷◌, ◌++◌, ap, sym}
+use Rattle.std.proofs.Common.{flat_map, get_or, length, map, take}
 use Rattle.std.specs.Prelude.{Result, Ok, Err, OnOk}
 use Rattle.std.proofs.lemmas.List.{flat_map_more, map-append, take_all, take_more}
 

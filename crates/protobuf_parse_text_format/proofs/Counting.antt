@@ -1,6 +1,6 @@
 -- How many decimal digits a number has.
-use Rattle.std.proofs.Common.{◌≡◌, ◌≢◌, ℕ, zero, suc, ◌+◌, ◌-◌, ◌*◌, ◌/◌, ◌^◌, ◌<◌, ◌≤◌, ap, sym}
-use Rattle.std.proofs.Common.{◌∙◌, refl, arith}
+use Rattle.std.proofs.Common.{◌≡◌, ℕ, zero, suc, ◌+◌, ◌-◌, ◌*◌, ◌/◌, ◌^◌, ◌<◌, ◌≤◌, ap}
+use Rattle.std.proofs.Common.{refl, arith}
 use mathlib.Core.Logic.{inl, inr}
 use native.Mathlib.Nat.{eq-zero-or-pos, le_trans, lt_of_lt_of_le, lt_of_le_of_lt, pow-suc}
 use native.Mathlib.Nat.{pow-le-pow_right, lt_irrefl}

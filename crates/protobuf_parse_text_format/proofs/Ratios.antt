@@ -3,10 +3,10 @@ use Rattle.std.proofs.Common.{◌≡◌, ℕ, zero, suc, ◌+◌, ◌-◌, ◌*�
 use Rattle.std.proofs.Common.{◌∙◌, subst, arith, Bool, IsTrue, true, false}
 use mathlib.Core.Path.{ap₂}
 use mathlib.Core.Logic.{inl, inr}
-use native.Mathlib.Nat.{eq-zero-or-pos, le_trans, le_of_lt, lt_of_lt_of_le, lt_of_le_of_lt, mul-le-mul}
-use native.Mathlib.Nat.{mul-le-mul_left, mul-le-mul_right, pow-le-pow_right, mul-pos}
-use native.Mathlib.Nat.{mul-lt-mul_of_pos_right, lt_of_mul-lt-mul_right, le_of_mul-le-mul_right}
-use native.Mathlib.Nat.{mul-div-mul_right, pow-suc, pow-zero, div-lt_iff_lt-mul, mul-div-le}
+use native.Mathlib.Nat.{eq-zero-or-pos, le_trans, le_of_lt, lt_of_le_of_lt, mul-le-mul}
+use native.Mathlib.Nat.{mul-le-mul_left, pow-le-pow_right, mul-pos}
+use native.Mathlib.Nat.{mul-lt-mul_of_pos_right, lt_of_mul-lt-mul_right}
+use native.Mathlib.Nat.{mul-div-mul_right, pow-suc, div-lt_iff_lt-mul, mul-div-le}
 use lib.Dec.{lit≤, lit<}
 use lib.Pow.{pow-add}
 use Rattle.std.specs.Ordering.{nat_cmp}

@@ -1,8 +1,7 @@
 -- The lines of records, a level at a time.
-use Rattle.std.proofs.Common.{◌≡◌, ℕ, zero, suc, ◌-◌, ◌≢◌, List, [], flat_map, refl, ap, sym, ◌∙◌}
+use Rattle.std.proofs.Common.{◌≡◌, ℕ, zero, suc, ◌-◌, ◌≢◌, List, [], flat_map, refl}
 use Rattle.std.proofs.Common.{arith}
 use Rattle.protobuf_parse_records.specs.Views.{WireRecord}
-use Rattle.protobuf_parse_text_format.specs.Pieces.{Text}
 use Rattle.protobuf_parse_text_format.specs.Raw.{lines_inside, record_lines, records_lines}
 
 pub no_levels : (levels level : ℕ) (rs : List WireRecord) → levels ≡ 0

@@ -1,6 +1,5 @@
 -- Digits and the zeros at their end.
-use Rattle.std.proofs.Common.{◌≡◌, ◌≢◌, ◌∙◌, ℕ, ◌<◌, ◌≤◌, List, [], ◌∷◌, ◌++◌, ap, sym, refl}
-use Rattle.std.proofs.Common.{arith}
+use Rattle.std.proofs.Common.{◌≡◌, ◌≢◌, ℕ, List, [], ◌∷◌, ◌++◌, ap, refl}
 use borrow.Author.Tests.{ne_eqb}
 use Rattle.protobuf_parse_text_format.specs.Floats.{before, trimmed}
 

@@ -2,7 +2,7 @@
 -- another double; a float as `%.6g`, or else as `%.9g`. The bits are those of IEEE 754, "Binary
 -- interchange formats".
 use Rattle.std.specs.Prelude.{ℕ, ◌+◌, ◌-◌, ◌*◌, ◌/◌, ◌%◌, ◌^◌, ◌==◌, ◌&&◌, nat_lt, nat_le, Bool, true}
-use Rattle.std.specs.Prelude.{false, List, [], ◌∷◌, ◌++◌, codes, decimal, length, replicate, take}
+use Rattle.std.specs.Prelude.{false, [], ◌∷◌, ◌++◌, codes, decimal, length, replicate, take}
 use Rattle.std.specs.Prelude.{drop, if◌then◌else◌}
 use Rattle.std.specs.Float.{binary32, binary64}
 use Rattle.std.specs.Float.Ieee.{Format, to_bits}

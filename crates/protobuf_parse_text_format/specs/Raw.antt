@@ -1,8 +1,8 @@
 -- Records with no descriptors, as text: what Protocol Buffers' own tools print for
 -- `protoc --decode_raw`.
-use Rattle.std.specs.Prelude.{ℕ, zero, suc, ◌+◌, nat_lt, ◌==◌, ◌&&◌, not, length, List, [], ◌∷◌, ◌++◌}
+use Rattle.std.specs.Prelude.{ℕ, zero, suc, ◌+◌, nat_lt, ◌==◌, ◌&&◌, not, length, List, [], ◌++◌}
 use Rattle.std.specs.Prelude.{flat_map, codes, decimal, if◌then◌else◌, Bool, Option, Some, None}
-use Rattle.std.specs.Prelude.{Result, Ok, Err}
+use Rattle.std.specs.Prelude.{Ok, Err}
 use Rattle.std.specs.Int.{w32, w64, to_be_bytes}
 use Rattle.hex.specs.Hex.{encode_lower}
 use Rattle.protobuf_parse_records.specs.Splitting.{records_in, records_of}

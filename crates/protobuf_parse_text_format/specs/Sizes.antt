@@ -1,6 +1,6 @@
 -- No public clause rests on this file.
 -- The sizes of floats, as the code has them.
-use Rattle.std.specs.Prelude.{◌≡◌, ℕ, ◌+◌, ◌*◌, ◌^◌, ◌<◌, ◌≤◌}
+use Rattle.std.specs.Prelude.{◌≡◌, ℕ, ◌*◌, ◌^◌, ◌<◌, ◌≤◌}
 use Rattle.protobuf_parse_text_format.specs.declared.decimal.Size.{Size}
 
 -- the number of a size

@@ -1,6 +1,6 @@
 -- Messages in the text format, as `protoc --decode` prints them. Protocol Buffers, "Text Format
 -- Language Specification" (https://protobuf.dev/reference/protobuf/textformat-spec/).
-use Rattle.std.specs.Prelude.{ℕ, ℤ, pos, ◌+◌, ◌^◌, ◌&&◌, nat_lt, Bool, true, false, List, [], ◌∷◌}
+use Rattle.std.specs.Prelude.{ℕ, ℤ, pos, ◌+◌, ◌^◌, ◌&&◌, nat_lt, Bool, true, false, List, []}
 use Rattle.std.specs.Prelude.{◌++◌, bytes_eq, codes, decimal, flat_map, unwrap_or, Option, Some}
 use Rattle.std.specs.Prelude.{None, if◌then◌else◌}
 use Rattle.std.specs.Fmt.{signed_decimal}

@@ -1,4 +1,4 @@
-use Rattle.std.proofs.Common.{◌≡◌, ◌<◌, ◌≤◌, ◌^◌, ◌+◌, ◌-◌, ◌∙◌, sym, arith}
+use Rattle.std.proofs.Common.{◌≡◌, ◌^◌, ◌+◌, ◌-◌, sym, arith}
 use Rattle.protobuf_parse_text_format.specs.Sizes.{units_of}
 use Rattle.protobuf_parse_text_format.proofs.Counting.{count_is, few_digits}
 use Rattle.protobuf_parse_text_format.proofs.Ratios.{not_reached, whole_size}

@@ -1,4 +1,4 @@
-use Rattle.std.proofs.Common.{ℕ, ◌*◌, ◌-◌, ◌<◌, ◌≤◌, ◌^◌}
+use Rattle.std.proofs.Common.{◌-◌, ◌<◌, ◌≤◌, ◌^◌}
 use Rattle.protobuf_parse_text_format.specs.Sizes.{units_of}
 use Rattle.protobuf_parse_text_format.proofs.decimal.digit_count.Given as goal
 

@@ -1,4 +1,4 @@
-use Rattle.std.proofs.Common.{◌≤◌, ◌+◌, arith}
+use Rattle.std.proofs.Common.{arith}
 use Rattle.protobuf_parse_text_format.proofs.Counting.{few_dropped}
 use Rattle.protobuf_parse_text_format.proofs.decimal.first_digits.Goals as goal
 

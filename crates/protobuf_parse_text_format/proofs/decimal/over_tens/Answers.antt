@@ -1,4 +1,4 @@
-use Rattle.std.proofs.Common.{◌≤◌, arith}
+use Rattle.std.proofs.Common.{arith}
 use Rattle.protobuf_parse_text_format.proofs.Ratios.{mantissa_fits, size_at_most, size_fits}
 use Rattle.protobuf_parse_text_format.proofs.Ratios.{tens_at_most, tens_fits, twos_of_tens_fit}
 use Rattle.protobuf_parse_text_format.proofs.Ratios.{positive_under, ratio_is}

@@ -1,4 +1,4 @@
-use Rattle.std.proofs.Common.{◌≡◌, ◌<◌, ◌≤◌, ◌^◌, ◌∙◌, sym, arith}
+use Rattle.std.proofs.Common.{◌∙◌, sym}
 use Rattle.protobuf_parse_text_format.proofs.Ratios.{is_below, is_from}
 use Rattle.protobuf_parse_text_format.proofs.decimal.reaches.Goals as goal
 

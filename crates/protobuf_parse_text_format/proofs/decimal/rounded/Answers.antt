@@ -1,4 +1,4 @@
-use Rattle.std.proofs.Common.{◌≡◌, ◌<◌, ◌/◌, ◌^◌, ◌∙◌, sym, ap, arith}
+use Rattle.std.proofs.Common.{◌^◌, ◌∙◌, sym, arith}
 use Rattle.protobuf_parse_text_format.proofs.Ratios.{few_times, middle_fits, settled}
 use Rattle.protobuf_parse_text_format.proofs.Ratios.{twice_over_fits, whole_below}
 use Rattle.protobuf_parse_text_format.proofs.decimal.rounded.Goals as goal

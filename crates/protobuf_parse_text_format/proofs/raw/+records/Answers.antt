@@ -1,4 +1,4 @@
-use Rattle.std.proofs.Common.{◌≢◌, ◌-◌, ◌++◌, ◌∙◌, List, ℕ, ap, sym, append-nil, map, arith}
+use Rattle.std.proofs.Common.{◌-◌, ◌++◌, ◌∙◌, List, ℕ, ap, sym, append-nil, map}
 use Rattle.std.specs.Prelude.{string_bytes}
 use Rattle.protobuf_parse_records.specs.Views.{record_view}
 use Rattle.protobuf_parse_text_format.specs.Raw.{lines_inside, record_lines}
