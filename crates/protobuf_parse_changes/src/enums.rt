@@ -9,6 +9,7 @@ ghost use Rattle.protobuf_parse_changes.specs.Views.{place_view, told};
 use crate::change::{Change, Place, place_of, tell, tell_if};
 use crate::kind::ChangeKind;
 use crate::reserved::{in_enum_ranges, is_among};
+use crate::within::{descriptor_in, file_in};
 use protobuf_parse_index::{Declared, Index};
 use protobuf_parse_model::{EnumDescriptorProto, EnumValueDescriptorProto, FileDescriptorProto};
 use std::alloc::AllocError;
@@ -16,9 +17,9 @@ use std::alloc::AllocError;
 /// Tells what became of enums of the old files.
 pub fn enums_changes<'c>(
     changes: &mut Vec<Change<'c>>,
-    old_index: &Index<'c>,
-    new_index: &Index<'c>,
-    enums: &'c [Declared<'c, EnumDescriptorProto>],
+    old_index: &'c Index<'_>,
+    new_index: &'c Index<'_>,
+    enums: &'c [Declared<'_, EnumDescriptorProto>],
 ) -> Result<(), AllocError>
     ensures { OnOk result (told changes.new ≡ told changes.old
         ++ flat_map (spec.enum_changes (map file_view old_index.now)
@@ -32,15 +33,15 @@ pub fn enums_changes<'c>(
 
 fn enum_changes<'c>(
     changes: &mut Vec<Change<'c>>,
-    old_index: &Index<'c>,
-    new_index: &Index<'c>,
-    old: &'c Declared<'c, EnumDescriptorProto>,
+    old_index: &'c Index<'_>,
+    new_index: &'c Index<'_>,
+    old: &'c Declared<'_, EnumDescriptorProto>,
 ) -> Result<(), AllocError>
     ensures { OnOk result (told changes.new ≡ told changes.old
         ++ spec.enum_changes (map file_view old_index.now) (map file_view new_index.now)
         (standing_enum old.now)) }
 {
-    let at = place_of(old.file, &old.full_name);
+    let at = place_of(file_in(old), &old.full_name);
     match new_index.enumeration(&old.full_name) {
         Some(new) => kept_enum(changes, old_index, new_index, at, old, new),
         None => tell(changes, ChangeKind::EnumRemoved, at),
@@ -49,11 +50,11 @@ fn enum_changes<'c>(
 
 fn kept_enum<'c>(
     changes: &mut Vec<Change<'c>>,
-    old_index: &Index<'c>,
-    new_index: &Index<'c>,
+    old_index: &'c Index<'_>,
+    new_index: &'c Index<'_>,
     at: Place<'c>,
-    old: &Declared<'c, EnumDescriptorProto>,
-    new: &Declared<'c, EnumDescriptorProto>,
+    old: &'c Declared<'_, EnumDescriptorProto>,
+    new: &'c Declared<'_, EnumDescriptorProto>,
 ) -> Result<(), AllocError>
     ensures { OnOk result (told changes.new ≡ told changes.old
         ++ spec.kept_enum (map file_view old_index.now) (map file_view new_index.now)
@@ -61,14 +62,10 @@ fn kept_enum<'c>(
 {
     let changed = is_open(old_index, old.file) != is_open(new_index, new.file);
     tell_if(changes, changed, ChangeKind::OpennessChanged, at)?;
-    values_changes(
-        changes,
-        new_index,
-        at,
-        new.descriptor,
-        &old.descriptor.value,
-    )?;
-    new_values_changes(changes, at, old.descriptor, &new.descriptor.value)
+    let old = descriptor_in(old);
+    let new = descriptor_in(new);
+    values_changes(changes, new_index, at, new, &old.value)?;
+    new_values_changes(changes, at, old, &new.value)
 }
 
 /// Whether the enums of the file of that path are open.
@@ -92,7 +89,7 @@ fn is_proto3(file: &FileDescriptorProto) -> bool
 
 fn values_changes<'c>(
     changes: &mut Vec<Change<'c>>,
-    new_index: &Index<'c>,
+    new_index: &'c Index<'_>,
     at: Place<'c>,
     new: &EnumDescriptorProto,
     values: &'c [EnumValueDescriptorProto],
@@ -109,7 +106,7 @@ fn values_changes<'c>(
 
 fn value_changes<'c>(
     changes: &mut Vec<Change<'c>>,
-    new_index: &Index<'c>,
+    new_index: &'c Index<'_>,
     at: Place<'c>,
     new: &EnumDescriptorProto,
     value: &'c EnumValueDescriptorProto,

@@ -10,6 +10,7 @@ use crate::change::{Change, Place, place_of, tell, tell_if};
 use crate::kind::ChangeKind;
 use crate::same::same_text;
 use crate::shapes::shape_changes;
+use crate::within::file_in;
 use protobuf_parse_index::{Declared, Index};
 use protobuf_parse_model::FieldDescriptorProto;
 use std::alloc::AllocError;
@@ -17,8 +18,8 @@ use std::alloc::AllocError;
 /// Tells what became of extensions of the old files.
 pub fn extensions_changes<'c>(
     changes: &mut Vec<Change<'c>>,
-    new_index: &Index<'c>,
-    extensions: &'c [Declared<'c, FieldDescriptorProto>],
+    new_index: &'c Index<'_>,
+    extensions: &'c [Declared<'_, FieldDescriptorProto>],
 ) -> Result<(), AllocError>
     ensures { OnOk result (told changes.new ≡ told changes.old
         ++ flat_map (spec.extension_changes (map file_view new_index.now))
@@ -32,14 +33,14 @@ pub fn extensions_changes<'c>(
 
 fn extension_changes<'c>(
     changes: &mut Vec<Change<'c>>,
-    new_index: &Index<'c>,
-    extension: &'c Declared<'c, FieldDescriptorProto>,
+    new_index: &'c Index<'_>,
+    extension: &'c Declared<'_, FieldDescriptorProto>,
 ) -> Result<(), AllocError>
     ensures { OnOk result (told changes.new ≡ told changes.old
         ++ spec.extension_changes (map file_view new_index.now)
         (standing_extension extension.now)) }
 {
-    let at = place_of(extension.file, &extension.full_name);
+    let at = place_of(file_in(extension), &extension.full_name);
     match new_index.extension_by_name(&extension.full_name) {
         Some(new) => kept_extension(changes, at, extension.descriptor, new.descriptor),
         None => tell(changes, ChangeKind::ExtensionRemoved, at),

@@ -40,7 +40,7 @@ pub fn own_field<'a>(
 /// Tells what became of a field of the old message.
 pub fn field_changes<'c>(
     changes: &mut Vec<Change<'c>>,
-    new_index: &Index<'c>,
+    new_index: &'c Index<'_>,
     at: Place<'c>,
     old: &'c DescriptorProto,
     new: &'c DescriptorProto,
@@ -84,7 +84,7 @@ fn kept_field<'c>(
     old: &'c DescriptorProto,
     new: &'c DescriptorProto,
     field: &'c FieldDescriptorProto,
-    kept: &'c FieldDescriptorProto,
+    kept: &FieldDescriptorProto,
 ) -> Result<(), AllocError>
     ensures { OnOk result (told changes.new ≡ told changes.old
         ++ spec.kept_field (place_view at.entry) (message_view old.now)

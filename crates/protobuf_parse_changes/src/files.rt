@@ -18,7 +18,7 @@ use std::alloc::{AllocError, Global};
 pub fn files_changes<'c>(
     alloc: Global,
     changes: &mut Vec<Change<'c>>,
-    new_index: &Index<'c>,
+    new_index: &'c Index<'_>,
     files: &'c [FileDescriptorProto],
 ) -> Result<(), AllocError>
     ensures { OnOk result (told changes.new ≡ told changes.old
@@ -33,7 +33,7 @@ pub fn files_changes<'c>(
 fn file_changes<'c>(
     alloc: Global,
     changes: &mut Vec<Change<'c>>,
-    new_index: &Index<'c>,
+    new_index: &'c Index<'_>,
     file: &'c FileDescriptorProto,
 ) -> Result<(), AllocError>
     ensures { OnOk result (told changes.new ≡ told changes.old

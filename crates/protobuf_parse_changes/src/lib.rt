@@ -19,6 +19,7 @@ mod same;
 mod services;
 mod shapes;
 mod versions;
+mod within;
 
 pub use change::{Change, Place};
 pub use kind::{Category, ChangeKind};

@@ -13,6 +13,7 @@ use crate::fields::field_changes;
 use crate::kind::ChangeKind;
 use crate::new_fields::new_field_changes;
 use crate::oneofs::oneof_changes;
+use crate::within::{descriptor_in, file_in};
 use protobuf_parse_index::{Declared, Index};
 use protobuf_parse_model::{DescriptorProto, FieldDescriptorProto, OneofDescriptorProto};
 use std::alloc::AllocError;
@@ -20,9 +21,9 @@ use std::alloc::AllocError;
 /// Tells what became of messages of the old files.
 pub fn messages_changes<'c>(
     changes: &mut Vec<Change<'c>>,
-    old_index: &Index<'c>,
-    new_index: &Index<'c>,
-    messages: &'c [Declared<'c, DescriptorProto>],
+    old_index: &'c Index<'_>,
+    new_index: &'c Index<'_>,
+    messages: &'c [Declared<'_, DescriptorProto>],
 ) -> Result<(), AllocError>
     ensures { OnOk result (told changes.new ≡ told changes.old
         ++ flat_map (spec.message_changes (map file_view old_index.now)
@@ -36,18 +37,21 @@ pub fn messages_changes<'c>(
 
 fn message_changes<'c>(
     changes: &mut Vec<Change<'c>>,
-    old_index: &Index<'c>,
-    new_index: &Index<'c>,
-    message: &'c Declared<'c, DescriptorProto>,
+    old_index: &'c Index<'_>,
+    new_index: &'c Index<'_>,
+    message: &'c Declared<'_, DescriptorProto>,
 ) -> Result<(), AllocError>
     ensures { OnOk result (told changes.new ≡ told changes.old
         ++ spec.message_changes (map file_view old_index.now) (map file_view new_index.now)
         (standing_message message.now)) }
 {
-    let at = place_of(message.file, &message.full_name);
-    let old = message.descriptor;
+    let at = place_of(file_in(message), &message.full_name);
+    let old = descriptor_in(message);
     match new_index.message(&message.full_name) {
-        Some(new) => kept_message(changes, old_index, new_index, at, old, new.descriptor),
+        Some(new) => {
+            let new = descriptor_in(new);
+            kept_message(changes, old_index, new_index, at, old, new)
+        }
         None => {
             let removed = !is_map_entry(old);
             tell_if(changes, removed, ChangeKind::MessageRemoved, at)
@@ -67,8 +71,8 @@ fn is_map_entry(message: &DescriptorProto) -> bool
 
 fn kept_message<'c>(
     changes: &mut Vec<Change<'c>>,
-    old_index: &Index<'c>,
-    new_index: &Index<'c>,
+    old_index: &'c Index<'_>,
+    new_index: &'c Index<'_>,
     at: Place<'c>,
     old: &'c DescriptorProto,
     new: &'c DescriptorProto,
@@ -84,7 +88,7 @@ fn kept_message<'c>(
 
 fn fields_changes<'c>(
     changes: &mut Vec<Change<'c>>,
-    new_index: &Index<'c>,
+    new_index: &'c Index<'_>,
     at: Place<'c>,
     old: &'c DescriptorProto,
     new: &'c DescriptorProto,
@@ -119,7 +123,7 @@ fn oneofs_changes<'c>(
 
 fn new_fields_changes<'c>(
     changes: &mut Vec<Change<'c>>,
-    old_index: &Index<'c>,
+    old_index: &'c Index<'_>,
     at: Place<'c>,
     old: &'c DescriptorProto,
     list: &'c [FieldDescriptorProto],

@@ -17,7 +17,7 @@ use std::alloc::AllocError;
 /// Tells that of a field of the new message.
 pub fn new_field_changes<'c>(
     changes: &mut Vec<Change<'c>>,
-    old_index: &Index<'c>,
+    old_index: &'c Index<'_>,
     of: Place<'c>,
     old: &'c DescriptorProto,
     field: &'c FieldDescriptorProto,

@@ -8,6 +8,7 @@ ghost use Rattle.protobuf_parse_changes.specs.Views.{place_view, told};
 
 use crate::change::{Change, Place, place_of, tell, tell_if};
 use crate::kind::ChangeKind;
+use crate::within::{descriptor_in, file_in};
 use protobuf_parse_index::{Declared, Index};
 use protobuf_parse_model::{MethodDescriptorProto, ServiceDescriptorProto};
 use std::alloc::AllocError;
@@ -15,8 +16,8 @@ use std::alloc::AllocError;
 /// Tells what became of services of the old files.
 pub fn services_changes<'c>(
     changes: &mut Vec<Change<'c>>,
-    new_index: &Index<'c>,
-    services: &'c [Declared<'c, ServiceDescriptorProto>],
+    new_index: &'c Index<'_>,
+    services: &'c [Declared<'_, ServiceDescriptorProto>],
 ) -> Result<(), AllocError>
     ensures { OnOk result (told changes.new ≡ told changes.old
         ++ flat_map (spec.service_changes (map file_view new_index.now))
@@ -30,22 +31,22 @@ pub fn services_changes<'c>(
 
 fn service_changes<'c>(
     changes: &mut Vec<Change<'c>>,
-    new_index: &Index<'c>,
-    service: &'c Declared<'c, ServiceDescriptorProto>,
+    new_index: &'c Index<'_>,
+    service: &'c Declared<'_, ServiceDescriptorProto>,
 ) -> Result<(), AllocError>
     ensures { OnOk result (told changes.new ≡ told changes.old
         ++ spec.service_changes (map file_view new_index.now) (standing_service service.now)) }
 {
-    let at = place_of(service.file, &service.full_name);
+    let at = place_of(file_in(service), &service.full_name);
     match new_index.service(&service.full_name) {
-        Some(_) => methods_changes(changes, new_index, at, &service.descriptor.method),
+        Some(_) => methods_changes(changes, new_index, at, &descriptor_in(service).method),
         None => tell(changes, ChangeKind::ServiceRemoved, at),
     }
 }
 
 fn methods_changes<'c>(
     changes: &mut Vec<Change<'c>>,
-    new_index: &Index<'c>,
+    new_index: &'c Index<'_>,
     at: Place<'c>,
     methods: &'c [MethodDescriptorProto],
 ) -> Result<(), AllocError>
@@ -61,7 +62,7 @@ fn methods_changes<'c>(
 
 fn method_changes<'c>(
     changes: &mut Vec<Change<'c>>,
-    new_index: &Index<'c>,
+    new_index: &'c Index<'_>,
     at: Place<'c>,
     method: &'c MethodDescriptorProto,
 ) -> Result<(), AllocError>

@@ -11,6 +11,7 @@ use crate::extensions::extensions_changes;
 use crate::files::files_changes;
 use crate::messages::messages_changes;
 use crate::services::services_changes;
+use crate::within::files_in;
 use protobuf_parse_index::Index;
 use std::alloc::{AllocError, Global};
 
@@ -34,14 +35,14 @@ use std::alloc::{AllocError, Global};
 /// [`ChangeKind`]: crate::ChangeKind
 pub fn changes<'c>(
     alloc: Global,
-    old: &'c Index<'c>,
-    new: &'c Index<'c>,
+    old: &'c Index<'_>,
+    new: &'c Index<'_>,
 ) -> Result<Vec<Change<'c>>, AllocError>
     ensures { IfOk result
         (λ v. told v ≡ changes_of (map file_view old.now) (map file_view new.now)) }
 {
     let mut changes = Vec::new(alloc);
-    files_changes(alloc, &mut changes, new, old.files())?;
+    files_changes(alloc, &mut changes, new, files_in(old))?;
     messages_changes(&mut changes, old, new, old.messages())?;
     enums_changes(&mut changes, old, new, old.enums())?;
     services_changes(&mut changes, new, old.services())?;
