@@ -1,0 +1,14 @@
+pub mod Changes
+pub mod Categories
+pub mod Same
+pub mod Reserved
+pub mod Oneofs
+pub mod Fields
+pub mod Messages
+pub mod Enums
+pub mod Services
+pub mod Extensions
+pub mod Options
+pub mod Files
+pub mod Versions
+pub mod Views
