@@ -7,8 +7,8 @@ use Rattle.protobuf_parse_merged.specs.declared.fault.MergeError.TheVariants as 
 abbrev pub Answer : Type 0 → Type 0
 Answer X = Option X
 
--- the second step takes what the first one gave
 infixl 20 ◌>>=◌
+-- the second step takes what the first one gave
 abbrev pub ◌>>=◌ : {A B : Type 0} → Answer A → (A → Answer B) → Answer B
 Some x >>= f = f x
 None >>= f = None

@@ -2,7 +2,8 @@
 use Rattle.std.proofs.Common.{◌≡◌, ℕ, zero, suc, ◌-◌, ◌≢◌, List, [], flat_map, refl}
 use Rattle.std.proofs.Common.{arith}
 use Rattle.protobuf_parse_records.specs.Views.{WireRecord}
-use Rattle.protobuf_parse_text_format.specs.Raw.{lines_inside, record_lines, records_lines}
+use Rattle.protobuf_parse_text_format.specs.Inside.{lines_inside}
+use Rattle.protobuf_parse_text_format.specs.Raw.{record_lines, records_lines}
 
 pub no_levels : (levels level : ℕ) (rs : List WireRecord) → levels ≡ 0
     → records_lines levels level rs ≡ []

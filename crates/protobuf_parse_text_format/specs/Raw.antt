@@ -63,10 +63,6 @@ records_lines zero level rs = []
 records_lines (suc levels) level rs =
     flat_map (record_lines (records_lines levels (level + 1)) levels level) rs
 
--- the same of records inside those that stand so many levels in
-abbrev pub lines_inside : (levels level : ℕ) → Inside
-lines_inside levels level = records_lines levels (level + 1)
-
 -- How many levels there are: those of a message, ten of bytes that are taken for records, and a
 -- hundred of groups, which is as many as records have.
 abbrev pub most_levels : ℕ

@@ -5,7 +5,7 @@ ghost use Rattle.std.specs.String.{string_bytes};
 ghost use Rattle.hex.specs.Hex.{encode_lower};
 ghost use Rattle.protobuf_parse_records.specs.Views.{payload_view, record_view, span_view};
 ghost use Rattle.protobuf_parse_records.specs.Wire.{Gives};
-ghost use Rattle.protobuf_parse_text_format.specs.Inside.{records_seen};
+ghost use Rattle.protobuf_parse_text_format.specs.Inside.{lines_inside, records_seen};
 ghost use Rattle.protobuf_parse_text_format.specs.Pieces.{value_line};
 ghost use Rattle.protobuf_parse_text_format.specs.Puts.{Puts};
 ghost use Rattle.protobuf_parse_text_format.specs.Raw as spec;
@@ -76,7 +76,7 @@ fn put_record(
     item: Record<'_>,
 ) -> Result<(), AllocError>
     ensures { Puts result text.old text.new
-        (spec.record_lines (spec.lines_inside levels level) levels level
+        (spec.record_lines (lines_inside levels level) levels level
         (record_view item.entry)) }
 {
     let mut digits = Buffer::new();
@@ -108,7 +108,7 @@ fn put_found(
     found: &Option<Vec<Record<'_>>>,
 ) -> Result<(), AllocError>
     ensures { Puts result text.old text.new
-        (spec.found_lines (spec.lines_inside levels level) level name.now bytes.now
+        (spec.found_lines (lines_inside levels level) level name.now bytes.now
         (records_seen found.now)) }
 {
     match found {

@@ -1,7 +1,8 @@
 use Rattle.std.proofs.Common.{◌≡◌, ◌+◌, ◌*◌, ◌-◌, ◌++◌, map, take, flat_map}
 use Rattle.std.specs.Prelude.{string_bytes}
 use Rattle.protobuf_parse_records.specs.Views.{record_view}
-use Rattle.protobuf_parse_text_format.specs.Raw.{lines_inside, record_lines}
+use Rattle.protobuf_parse_text_format.specs.Inside.{lines_inside}
+use Rattle.protobuf_parse_text_format.specs.Raw.{record_lines}
 use Rattle.protobuf_parse_text_format.proofs.raw.+records.Given as goal
 
 abbrev pub decreases-put_records : goal.decreases-put_records
