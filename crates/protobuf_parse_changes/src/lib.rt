@@ -18,6 +18,8 @@ mod reserved;
 mod same;
 mod services;
 mod shapes;
+#[cfg(test)]
+mod tests;
 mod versions;
 mod within;
 
