@@ -563,32 +563,6 @@ def standard_input_has_a_path(it):
 
 
 @a_try
-def messages_on_standard_input_are_written_as_text(it):
-    def decoded(content, *words, status=0, out=b"", err=b""):
-        with pipe_with(content) as pipe:
-            it.expect(*words, stdin=pipe, status=status, out=out, err=err)
-
-    message = b"\n\x03cup\x10\x07"
-    decoded(message, "--decode=shop.Item", "item.proto", out=b'title: "cup"\n2: 7\n')
-    decoded(message, "--decode_raw", out=b'1: "cup"\n2: 7\n')
-    decoded(b"", "--decode=.shop.Item", "item.proto")
-    cut = b"/dev/stdin: error: this is no %s: byte 2: the bytes end inside a record [L17]\n"
-    decoded(b"\n\x04cup", "--decode_raw", status=1, err=cut % b"message")
-    words = ["--decode=shop.Item", "item.proto"]
-    decoded(b"\n\x04cup", *words, status=1, err=cut % b"`.shop.Item`")
-    err = b"/dev/stdin: error: no file declares the message `Item` [L18]\n"
-    decoded(message, "--decode=Item", "item.proto", status=1, err=err)
-
-
-@a_try
-def what_is_read_is_not_overwritten(it):
-    words = ("-o", "item.proto", "item.proto")
-    done = it.run(*words)
-    same(2, done.returncode, "the status")
-    assert b"what is written would overwrite one of the files" in done.stderr, done.stderr
-
-
-@a_try
 def sets_are_read(it):
     it.put("set.pb", SET)
     os.remove("item.proto")

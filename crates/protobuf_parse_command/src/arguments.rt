@@ -28,10 +28,6 @@ pub struct Arguments {
     /// Whether the texts of the files' descriptors are written.
     pub text: bool,
     pub imports: bool,
-    /// The type of the message on standard input that is written as text.
-    pub decode: Option<String>,
-    /// Whether any message on standard input is written as text.
-    pub decode_raw: bool,
     pub rules: RuleLevel,
     /// The codes of rules that are not told.
     pub rules_off: BTreeSet<String>,
@@ -93,8 +89,7 @@ pub fn arguments_of(
     }
 }
 
-/// The arguments, if they go together: standard input has a path and is read once, standard output is
-/// asked for once, and no file is read and written.
+/// The arguments, if standard input has a path and standard output is asked for once.
 fn agreed(alloc: Global, arguments: Arguments) -> Result<Arguments, Error> {
     match disagreement(&arguments) {
         None => Ok(arguments),
@@ -112,13 +107,10 @@ fn disagreement(arguments: &Arguments) -> Option<&'static str> {
     if arguments.dependency_path.is_some() && !has_file {
         return Some("'--dependency_out <FILE>' needs '-o <FILE>', which is not standard output");
     }
-    if is_overwritten(arguments) {
-        return Some("what is written would overwrite one of the files");
-    }
-    let reads_input = is_among(&arguments.files, STANDARD_INPUT);
-    if reads_input && arguments.decode.is_some() {
-        return Some("'--decode <TYPE>' reads standard input, which the FILE `-` is");
-    }
+    let reads_input = arguments
+        .files
+        .iter()
+        .any(|file| file.as_str() == STANDARD_INPUT);
     match &arguments.stdin_path {
         None if reads_input => Some("the FILE `-` needs '--stdin_path <PATH>'"),
         Some(path) if ProtoPath::new(path).is_err() => {
@@ -126,19 +118,6 @@ fn disagreement(arguments: &Arguments) -> Option<&'static str> {
         }
         _ => None,
     }
-}
-
-/// Whether what is written goes to the path of a file that is read.
-fn is_overwritten(arguments: &Arguments) -> bool {
-    let targets = [&arguments.set_path, &arguments.dependency_path];
-    targets.iter().any(|target| match target {
-        Some(path) => path.as_str() != STANDARD_OUTPUT && is_among(&arguments.files, path),
-        None => false,
-    })
-}
-
-fn is_among(files: &[String], path: &str) -> bool {
-    files.iter().any(|file| file.as_str() == path)
 }
 
 /// Whether the set goes to standard output.
@@ -232,8 +211,6 @@ fn read(
         list: matches.get_flag("list"),
         text: matches.get_flag("text"),
         imports: matches.get_flag("imports"),
-        decode: copy(alloc, matches.get_str("decode"))?,
-        decode_raw: matches.get_flag("decode_raw"),
         rules: level,
         rules_off: off,
         rules_of_files: matches.get_str("rules_of") == Some("files"),

@@ -10,16 +10,12 @@ const FORMATS: [&str; 3] = ["text", "json", "github"];
 
 const COLORS: [&str; 3] = ["auto", "always", "never"];
 
-/// What a command line is, but for `--decode_raw`, which has no FILE.
-const USAGE: &str = "protobuf_parse_cli [OPTIONS] <FILE>...";
-
 /// What stands behind the options.
 const EXAMPLES: &str = "\
 Examples:
   protobuf_parse_cli -I schemas schemas/shop/order.proto
   protobuf_parse_cli -I schemas --include_imports -o shop.pb shop/order.proto
-  protobuf_parse_cli --descriptor_set_in=shop.pb --text shop/order.proto
-  protobuf_parse_cli -I schemas --decode=shop.Order shop/order.proto < order.bin";
+  protobuf_parse_cli --descriptor_set_in=shop.pb --text shop/order.proto";
 
 /// The command line, with all options and what they do. The one error is that memory is short.
 pub fn command_line<'a>(alloc: Global) -> Result<Command<'a>, AllocError> {
@@ -28,12 +24,11 @@ pub fn command_line<'a>(alloc: Global) -> Result<Command<'a>, AllocError> {
         .version("0.1.0")
         .about(about)
         .no_binary_name(true)
-        .override_usage(USAGE)
         .after_help(EXAMPLES)
         .arg(include_argument(alloc))?
         .arg(sets_argument(alloc))?
         .arg(set_argument(alloc))?;
-    with_flags(alloc, command)?.arg(file_argument(alloc)?)
+    with_flags(alloc, command)?.arg(file_argument(alloc))
 }
 
 fn include_argument<'a>(alloc: Global) -> Arg<'a> {
@@ -67,16 +62,16 @@ fn set_argument<'a>(alloc: Global) -> Arg<'a> {
         .help("Writes a FileDescriptorSet of the files; `-` is standard output")
 }
 
-fn file_argument<'a>(alloc: Global) -> Result<Arg<'a>, AllocError> {
+fn file_argument<'a>(alloc: Global) -> Arg<'a> {
     Arg::new(alloc, "file")
         .value_name("FILE")
         .action(ArgAction::Append)
         .num_args(1..)
+        .required(true)
         .help(
             "A file below an include, or a path that an include has; `-` is standard input. `@FILE` \
              has arguments, one a line",
         )
-        .required_unless_present("decode_raw")
 }
 
 fn with_flags<'a>(alloc: Global, command: Command<'a>) -> Result<Command<'a>, AllocError> {
@@ -102,8 +97,6 @@ fn with_flags<'a>(alloc: Global, command: Command<'a>) -> Result<Command<'a>, Al
         .arg(flag(alloc, "list", "Lists the descriptors as text"))?
         .arg(text_flag(alloc)?)?
         .arg(imports_flag(alloc)?)?
-        .arg(decode_argument(alloc)?)?
-        .arg(raw_flag(alloc)?)?
         .arg(rules)?
         .arg(rules_of_argument(alloc))?
         .arg(flag(alloc, "fatal_warnings", fatal))?
@@ -202,20 +195,4 @@ fn imports_flag<'a>(alloc: Global) -> Result<Arg<'a>, AllocError> {
         .conflicts_with("include_source_info")?
         .conflicts_with("text")?
         .conflicts_with("list")
-}
-
-fn decode_argument<'a>(alloc: Global) -> Result<Arg<'a>, AllocError> {
-    Arg::new(alloc, "decode")
-        .long("decode")
-        .value_name("TYPE")
-        .action(ArgAction::Set)
-        .help("Reads a message of this type from standard input, and writes it as text")
-        .conflicts_with_all(&["set", "text", "list", "imports"])
-}
-
-fn raw_flag<'a>(alloc: Global) -> Result<Arg<'a>, AllocError> {
-    let help = "Reads any message from standard input, and writes it as text, with no FILE";
-    flag(alloc, "decode_raw", help).conflicts_with_all(&[
-        "decode", "set", "text", "list", "imports", "file",
-    ])
 }

@@ -6,7 +6,6 @@ mod arguments;
 mod check;
 mod colors;
 mod command_line;
-mod decoded;
 mod dependencies;
 mod excerpts;
 mod folders;

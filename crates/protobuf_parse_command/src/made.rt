@@ -8,7 +8,6 @@ ghost use Rattle.protobuf_parse_command.specs.Made.{IsSetAsked, info_of_file, is
 
 use crate::arguments::Arguments;
 use crate::check::{Checked, check_files};
-use crate::decoded::{input_text, raw_input_text};
 use crate::dependencies::rule_text;
 use crate::infos::Infos;
 use crate::listed::{Imports, imports_of_files};
@@ -16,10 +15,8 @@ use crate::printed::texts_of;
 use crate::told::{has_fatal, lines_of};
 use protobuf_parse::{FileDescriptorProto, ProtoPathBuf, files_of_inputs, listing};
 use protobuf_parse_descriptor_set::{FileWithInfo, descriptor_set, descriptor_set_with_info};
-use protobuf_parse_diagnostics::Diagnostic;
 use std::alloc::{AllocError, Global};
 use std::rt::Files;
-use std::slice;
 
 /// What a run writes.
 #[derive(Drop)]
@@ -44,63 +41,11 @@ pub fn make<R: Files + AllocGlobal>(
     alloc: Global,
     arguments: &Arguments,
 ) -> Result<Made, AllocError> {
-    if arguments.decode_raw {
-        return made_raw(alloc, arguments, raw_input_text(rt, alloc)?);
-    }
     if arguments.imports {
-        return make_imports(rt, alloc, arguments);
+        make_imports(rt, alloc, arguments)
+    } else {
+        made_of(alloc, arguments, check_files(rt, alloc, arguments)?)
     }
-    let checked = check_files(rt, alloc, arguments)?;
-    match &arguments.decode {
-        Some(type_name) => make_decoded(rt, alloc, arguments, checked, type_name),
-        None => made_of(alloc, arguments, checked),
-    }
-}
-
-/// `--decode`: what is made of the check, and the text of standard input where no error is told.
-fn make_decoded<R: Files + AllocGlobal>(
-    rt: &R,
-    alloc: Global,
-    arguments: &Arguments,
-    mut checked: Checked,
-    type_name: &str,
-) -> Result<Made, AllocError> {
-    if has_fatal(&checked.told, arguments.fatal_warnings) {
-        return made_of(alloc, arguments, checked);
-    }
-    match input_text(rt, alloc, &checked.files, type_name)? {
-        Ok(text) => {
-            let mut made = made_of(alloc, arguments, checked)?;
-            made.text = text;
-            Ok(made)
-        }
-        Err(told) => {
-            checked.told.push(told)?;
-            made_of(alloc, arguments, checked)
-        }
-    }
-}
-
-/// `--decode_raw`: the text of standard input, or what is told of it.
-fn made_raw(
-    alloc: Global,
-    arguments: &Arguments,
-    answer: Result<String, Diagnostic>,
-) -> Result<Made, AllocError> {
-    let (told, has_error, text) = match answer {
-        Ok(text) => (String::new(alloc), false, text),
-        Err(told) => {
-            let line = lines_of(alloc, arguments.error_format, slice::from_ref(&told), &[])?;
-            (line, true, String::new(alloc))
-        }
-    };
-    Ok(Made {
-        told,
-        has_error,
-        set: None,
-        dependencies: None,
-        text,
-    })
 }
 
 /// `--imports`.
