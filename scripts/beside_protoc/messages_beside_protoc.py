@@ -5,8 +5,8 @@
 
 makes random schemas and messages of them, as decode_beside_python.py does, whole ones and damaged
 ones, and has `protoc --decode` and PROGRAM, which is the command, write each as text, by its schema
-and with --decode_raw. The texts must have the same bytes, or say the same message where it has maps,
-whose entries protoc sorts; or both must refuse it, but for what protoc is known to take (`is_taken`)
+and with --decode_raw. The texts must have the same bytes, or say the same message where protoc
+writes what entries of maps lack; or both must refuse it, but for what protoc is known to take (`is_taken`)
 and the command tells with its byte. It wants `protoc` and Python's package. The status is 1 where
 something differs."""
 
@@ -65,7 +65,7 @@ def compared(program, room, factory, words, data):
     if ours == theirs:
         return "the same text" if ours is not None else "both refuse it", None
     if None not in (ours, theirs) and len(words) > 1 and is_same(ours, theirs, factory):
-        return "the same message, with maps in another order", None
+        return "the same message, where entries of maps lack something", None
     if None not in (ours, theirs) and len(words) == 1 and has_wide_tag(ours, theirs):
         return "protoc takes a tag of more than 32 bits", None
     if ours is None:
