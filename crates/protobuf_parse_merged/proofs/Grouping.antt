@@ -9,7 +9,8 @@ use Rattle.protobuf_parse_merged.specs.Answers.{Answer, ◌>>=◌, Fails}
 use Rattle.protobuf_parse_merged.specs.Merged.{Value, FieldItem}
 use Rattle.protobuf_parse_merged.specs.Declarations.{Declared, FieldsByNumber}
 use Rattle.protobuf_parse_merged.specs.Occurrences.{Held, Occurrence}
-use Rattle.protobuf_parse_merged.specs.Merging.{Inner, by_last, each_value, field_values}
+use Rattle.protobuf_parse_merged.specs.Maps.{arranged}
+use Rattle.protobuf_parse_merged.specs.Merging.{Inner, all_values, by_last, field_values}
 use Rattle.protobuf_parse_merged.specs.Merging.{fields_below, held_at, present}
 use Rattle.protobuf_parse_merged.specs.Inside.{AreOf, Ascends, StartsOtherwise, held_in}
 
@@ -80,10 +81,14 @@ same_start n (o ∷ os) other is = other is
 
 -- ---- fields
 
+none_arranged : (b : Bool) → arranged b [] ≡ []
+none_arranged true = refl
+none_arranged false = refl
+
 module _ (inner : Inner) (declared : FieldsByNumber) (os : List Occurrence) where
   nothing_by : (d : Declared) (b : Bool)
-      → cond b (each_value inner d.type_name []) (by_last inner d [] None) ≡ Some []
-  nothing_by d true = refl
+      → cond b (all_values inner d []) (by_last inner d [] None) ≡ Some []
+  nothing_by d true = ap (λ (vs : List Value). Some vs) (none_arranged d.is_map)
   nothing_by d false = refl
 
   nothing_there : (d : Option Declared) → field_values inner d [] ≡ Some []

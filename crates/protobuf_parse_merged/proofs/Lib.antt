@@ -6,3 +6,4 @@ pub mod Values
 pub mod Grouping
 pub mod Levels
 pub mod Upwards
+pub mod Keys

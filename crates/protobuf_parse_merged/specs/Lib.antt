@@ -3,8 +3,10 @@ pub mod Merged
 pub mod Declarations
 pub mod Occurrences
 pub mod Oneofs
+pub mod Maps
 pub mod Merging
 pub mod Laws
 pub mod Views
 pub mod Inside
 pub mod Behind
+pub mod Keyed

@@ -14,6 +14,7 @@ use Rattle.protobuf_parse_merged.specs.Declarations.{Declared, FieldsByNumber, d
 use Rattle.protobuf_parse_merged.specs.Occurrences.{Held, plain, inside, Occurrence, occurrences}
 use Rattle.protobuf_parse_merged.specs.Occurrences.{unknown_among}
 use Rattle.protobuf_parse_merged.specs.Oneofs.{counting}
+use Rattle.protobuf_parse_merged.specs.Maps.{arranged}
 
 -- what is left of such records, as the message of that name
 abbrev pub Inner : Type 0
@@ -78,13 +79,19 @@ each_value inner name (h ∷ hs) = do
   vs ← each_value inner name hs
   Some (v ∷ vs)
 
+-- all values, those of a map by their keys
+abbrev pub all_values : Inner → Declared → List Held → Answer (List Value)
+all_values inner d hs = do
+  vs ← each_value inner d.type_name hs
+  Some (arranged d.is_map vs)
+
 -- ---- fields
 
 -- the values of a field, of all that stands there
 abbrev pub field_values : Inner → Option Declared → List Held → Answer (List Value)
 field_values inner None hs = Some []
 field_values inner (Some d) hs =
-    if d.repeated then each_value inner d.type_name hs else by_last inner d hs (last_of hs)
+    if d.repeated then all_values inner d hs else by_last inner d hs (last_of hs)
 
 -- all that stands there of a number, in order
 abbrev pub held_at : ℕ → List Occurrence → List Held

@@ -4,6 +4,7 @@
 mod declared;
 mod fault;
 mod laws;
+mod maps;
 mod merging;
 mod message;
 mod occurrences;

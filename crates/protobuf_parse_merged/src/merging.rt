@@ -14,6 +14,7 @@ ghost use Rattle.protobuf_parse_merged.specs.Views.{message_view, unknown_view};
 
 use crate::declared::{Declared, declaration_of};
 use crate::fault::MergeError;
+use crate::maps::arranged;
 use crate::message::{Field, FieldValue, Message};
 use crate::occurrences::{Held, Occurrence, Told, told_of, told_of_all};
 use crate::runs::run_end;
@@ -32,9 +33,9 @@ const MOST_LEVELS: u32 = 100;
 /// messages, or groups, of such a field are merged as one. A field with implicit presence, as one of
 /// proto3 without a label, isn't there where its last value is zero, false or empty. Of a oneof only
 /// the member that stands last is there. A number that a closed enum doesn't declare is no value:
-/// it is unknown, as is the entry of a map that has such a value. Entries of maps are as those of
-/// any repeated field, also where several have one key. Where the files of the index don't declare
-/// the message, all of it is unknown.
+/// it is unknown, as is the entry of a map that has such a value. Of the entries of a map with one
+/// key the last counts, and they come in ascending order of their keys. Where the files of the index
+/// don't declare the message, all of it is unknown.
 ///
 /// The time is in proportion to the fields, with the logarithm of their count, and with look-ups for
 /// each. Texts and bytes are not copied.
@@ -188,12 +189,29 @@ fn values_of<'a>(
         None => Ok(Vec::new(alloc)),
         Some(field) => {
             if field.repeated {
-                each_value(alloc, index, levels, field.type_name, run)
+                all_values(alloc, index, levels, field, run)
             } else {
                 last_value(alloc, index, levels, field, run)
             }
         }
     }
+}
+
+/// All values, those of a map by their keys.
+#[cycle(message)]
+fn all_values<'a>(
+    alloc: Global,
+    index: &Index<'_>,
+    levels: u32,
+    field: Declared<'_>,
+    run: &[Occurrence<'_, 'a>],
+) -> Result<Vec<FieldValue<'a>>, MergeError>
+    ensures { Gives (λ v. map value_view v.items) result
+        (spec.all_values (merged_within (map file_view index.now) levels)
+        (declared_view field.entry) (held_in (map occurrence_view run.now))) }
+{
+    let values = each_value(alloc, index, levels, field.type_name, run)?;
+    arranged(alloc, field.is_map, values)
 }
 
 /// Each value.

@@ -17,8 +17,9 @@ pub struct Field<'a> {
     /// The field's number, from 1 to 2^29 - 1.
     pub number: u32,
     /// One value, or where the field is repeated one or more, in order. Those of a map are its
-    /// entries, in the order of the records: each is a message with the fields 1 and 2, where a
-    /// missing one means the default of its type. Of entries with one key the last counts.
+    /// entries, one for each key, in ascending order of their keys: numbers by value, false before
+    /// true, texts by their bytes. Each is a message with the fields 1 and 2, the key and the value,
+    /// where a missing one means the default of its type.
     pub values: Vec<FieldValue<'a>>,
 }
 

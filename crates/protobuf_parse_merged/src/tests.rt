@@ -3,7 +3,8 @@
 use crate::{MergeError, merged};
 use protobuf_parse_decode::{DecodedField, Meaning, Value, decode};
 use protobuf_parse_index::{
-    Index, empty_enum, empty_field, empty_file, empty_message, empty_oneof, empty_value,
+    Index, empty_enum, empty_field, empty_file, empty_message, empty_message_options, empty_oneof,
+    empty_value,
 };
 use protobuf_parse_model::{FieldDescriptorProto, FieldType, FileDescriptorProto, Label};
 use std::alloc::{AllocError, Global};
@@ -69,7 +70,12 @@ fn file(alloc: Global, syntax: &str) -> Result<FileDescriptorProto, AllocError> 
 
 /// What is left of the bytes of `.M`, as derived `Debug` writes it.
 fn shown(alloc: Global, syntax: &str, bytes: &[u8]) -> Result<String, TestError> {
-    let files = [file(alloc, syntax)?];
+    shown_by(alloc, file(alloc, syntax)?, bytes)
+}
+
+/// The same, by the file that declares `.M`.
+fn shown_by(alloc: Global, file: FileDescriptorProto, bytes: &[u8]) -> Result<String, TestError> {
+    let files = [file];
     let index = Index::of(alloc, &files)?;
     let Ok(fields) = decode(alloc, &index, ".M", bytes) else {
         return Err(TestError::Decode);
@@ -118,6 +124,47 @@ fn enums_of_proto2_are_closed(rt: HostRuntime) -> Result<(), TestError> {
         open.as_str(),
         "Message { fields: [\
         Field { number: 6, values: [Number { word: 5, number: 5 }] }], unknown: [] }"
+    );
+    Ok(())
+}
+
+/// `message M { map<int32, int32> f = 1; }`, the entry named `.E`.
+fn map_file(alloc: Global) -> Result<FileDescriptorProto, AllocError> {
+    let mut entry = empty_message(alloc, "E")?;
+    let key = empty_field(alloc, "key", 1, FieldType::Int32)?;
+    entry.field.push(key)?;
+    let value = empty_field(alloc, "value", 2, FieldType::Int32)?;
+    entry.field.push(value)?;
+    let mut options = empty_message_options(alloc);
+    options.map_entry = Some(true);
+    entry.options = Some(options);
+    let mut message = empty_message(alloc, "M")?;
+    let mut field = typed(alloc, 1, FieldType::Message, ".E")?;
+    field.label = Label::Repeated;
+    message.field.push(field)?;
+    let mut file = empty_file(alloc, "m.proto")?;
+    file.message_type.push(entry)?;
+    file.message_type.push(message)?;
+    Ok(file)
+}
+
+/// Of the key 3 the last entry counts, and entries stand by their keys.
+#[test]
+fn entries_of_maps_are_by_keys(rt: HostRuntime) -> Result<(), TestError> {
+    let alloc = rt.alloc();
+    let bytes = [
+        0x0a, 0x04, 0x08, 0x03, 0x10, 0x05, 0x0a, 0x04, 0x08, 0x01, 0x10, 0x06, 0x0a, 0x04, 0x08,
+        0x03, 0x10, 0x00,
+    ];
+    let shown = shown_by(alloc, map_file(alloc)?, &bytes)?;
+    assert_eq!(rt;
+        shown.as_str(),
+        "Message { fields: [Field { number: 1, values: [\
+        Message(Message { fields: [Field { number: 1, values: [Number { word: 1, number: 1 }] }, \
+        Field { number: 2, values: [Number { word: 6, number: 6 }] }], unknown: [] }), \
+        Message(Message { fields: [Field { number: 1, values: [Number { word: 3, number: 3 }] }, \
+        Field { number: 2, values: [Number { word: 0, number: 0 }] }], unknown: [] })] }], \
+        unknown: [] }"
     );
     Ok(())
 }

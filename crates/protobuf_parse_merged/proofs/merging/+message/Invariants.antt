@@ -9,28 +9,31 @@ use Rattle.protobuf_parse_merged.proofs.Grouping.{ToGroup}
 use Rattle.protobuf_parse_merged.proofs.merging.+message.Given as goal
 
 abbrev pub decreases-message_of : goal.decreases-message_of
-decreases-message_of l = 7 * l.levels
+decreases-message_of l = 8 * l.levels
 
 abbrev pub decreases-all_as_one : goal.decreases-all_as_one
-decreases-all_as_one l = 7 * l.levels
+decreases-all_as_one l = 8 * l.levels
 
 abbrev pub decreases-value_of : goal.decreases-value_of
-decreases-value_of l = 7 * l.levels + 1
+decreases-value_of l = 8 * l.levels + 1
 
 abbrev pub decreases-last_value : goal.decreases-last_value
-decreases-last_value l = 7 * l.levels + 1
+decreases-last_value l = 8 * l.levels + 1
 
 abbrev pub decreases-each_value : goal.decreases-each_value
-decreases-each_value l = 7 * l.levels + 2
+decreases-each_value l = 8 * l.levels + 2
+
+abbrev pub decreases-all_values : goal.decreases-all_values
+decreases-all_values l = 8 * l.levels + 3
 
 abbrev pub decreases-values_of : goal.decreases-values_of
-decreases-values_of l = 7 * l.levels + 3
+decreases-values_of l = 8 * l.levels + 4
 
 abbrev pub decreases-fields_of : goal.decreases-fields_of
-decreases-fields_of l = 7 * l.levels + 4
+decreases-fields_of l = 8 * l.levels + 5
 
 abbrev pub decreases-message_told : goal.decreases-message_told
-decreases-message_told l = 7 * l.levels + 5
+decreases-message_told l = 8 * l.levels + 6
 
 abbrev pub invariant-each_value-run : goal.invariant-each_value-run
 invariant-each_value-run l =
