@@ -34,8 +34,9 @@ const MOST_LEVELS: u32 = 100;
 /// proto3 without a label, isn't there where its last value is zero, false or empty. Of a oneof only
 /// the member that stands last is there. A number that a closed enum doesn't declare is no value:
 /// it is unknown, as is the entry of a map that has such a value. Of the entries of a map with one
-/// key the last counts, and they come in ascending order of their keys. Where the files of the index
-/// don't declare the message, all of it is unknown.
+/// key the last counts, and they come in ascending order of their keys. Each has both its fields: a
+/// key or a value that isn't there is the default of its type, of an enum the first value that is
+/// declared. Where the files of the index don't declare the message, all of it is unknown.
 ///
 /// The time is in proportion to the fields, with the logarithm of their count, and with look-ups for
 /// each. Texts and bytes are not copied.
