@@ -135,6 +135,7 @@ merged_within files zero name fs = None
 merged_within files (suc levels) name fs =
     message_of files (merged_within files levels) (declared_in files name) (defaults files name) fs
 
--- what is left of the fields of a message, by the files that declare it
+-- What is left of the fields of a message, by the files that declare it. The decoder gives a hundred
+-- levels, and the empty message of an entry that has no value may be one more.
 abbrev pub merged_message : List FileDescriptor → (name : Text) → decoded.Fields → Answer Message
-merged_message files name fs = merged_within files 100 name fs
+merged_message files name fs = merged_within files 101 name fs

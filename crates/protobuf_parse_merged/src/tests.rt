@@ -184,13 +184,13 @@ fn nested(alloc: Global, count: usize) -> Result<Vec<DecodedField<'static>>, All
     Ok(fields)
 }
 
-/// The outermost message is a level, too.
+/// The outermost message is a level, too. One more than a hundred may be there.
 #[test]
-fn a_hundred_levels_are_merged(rt: HostRuntime) -> Result<(), TestError> {
+fn a_hundred_levels_and_one_are_merged(rt: HostRuntime) -> Result<(), TestError> {
     let alloc = rt.alloc();
     let files = [file(alloc, "proto3")?];
     let index = Index::of(alloc, &files)?;
-    for (count, fits) in [(99, true), (100, false)] {
+    for (count, fits) in [(100, true), (101, false)] {
         let fields = nested(alloc, count)?;
         let result = merged(alloc, &index, ".M", &fields);
         assert_eq!(rt; result.is_ok(), fits, "{count}");

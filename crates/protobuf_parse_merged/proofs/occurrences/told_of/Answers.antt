@@ -1,4 +1,4 @@
-use Rattle.std.proofs.Common.{◌≡◌, List, ◌++◌, map, subst, ap, ◌∙◌}
+use Rattle.std.proofs.Common.{List, ◌++◌, map, subst, ap, ◌∙◌}
 use Rattle.protobuf_parse_model.specs.Descriptors.{file_view}
 use Rattle.protobuf_parse_decode.specs.Views.{fields_view}
 use Rattle.protobuf_parse_merged.specs.declared.message.Unknown.{Unknown as codeunknown}
