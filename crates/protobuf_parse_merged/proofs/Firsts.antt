@@ -1,11 +1,11 @@
 -- What a loop finds in values and fields, one after the other.
 use Rattle.std.proofs.Common.{◌≡◌, ℕ, ◌+◌, ◌<◌, ◌==◌, ◌&&◌, ◌||◌, List, ◌∷◌, length, get_or, drop}
-use Rattle.std.proofs.Common.{Bool, true, false, refl, sym, ap, ◌∙◌, drop-cons, add-one}
+use Rattle.std.proofs.Common.{Bool, refl, sym, ap, ◌∙◌, drop-cons, add-one}
 use Rattle.protobuf_parse_model.specs.Descriptors.{FileDescriptor}
 use Rattle.protobuf_parse_decode.specs.declared.field.DecodedField.{DecodedField}
 use Rattle.protobuf_parse_decode.specs.declared.field.Value as code
 use Rattle.protobuf_parse_decode.specs.Inside.{value_view, values_view}
-use Rattle.protobuf_parse_decode.specs.Fields.{Values, value}
+use Rattle.protobuf_parse_decode.specs.Fields.{value}
 use Rattle.protobuf_parse_decode.specs.Views.{field_view, fields_view}
 use Rattle.protobuf_parse_merged.specs.Declarations.{Declared}
 use Rattle.protobuf_parse_merged.specs.Occurrences.{any_undeclared, holds_undeclared}

@@ -1,6 +1,6 @@
 -- Entries by their keys.
 use Rattle.std.proofs.Common.{◌≡◌, ℕ, ℤ, ◌+◌, ◌<◌, ◌==◌, List, [], ◌∷◌, ◌++◌, length, get_or, drop, map}
-use Rattle.std.proofs.Common.{refl, sym, ap, ◌∙◌, cond, drop-cons, add-one, rules}
+use Rattle.std.proofs.Common.{refl, ap, ◌∙◌, cond, drop-cons, add-one, rules}
 use Rattle.std.specs.Borrow.{Bor}
 use Rattle.std.specs.BTreeMap.{insert_entry}
 use Rattle.std.specs.Ordering.{match_ordering}

@@ -1,7 +1,7 @@
 -- One level of a message, and the last of what stands there.
-use Rattle.std.proofs.Common.{◌≡◌, ℕ, zero, suc, ◌-◌, ◌^◌, ◌≤◌, ◌+◌, ◌<◌, List, [], ◌∷◌, ◌++◌, length}
-use Rattle.std.proofs.Common.{map, get_or, drop, slice_get, slice_range, Option, Some, None, refl, ap}
-use Rattle.std.proofs.Common.{sym, subst, ◌∙◌, arith, drop-cons, add-one}
+use Rattle.std.proofs.Common.{◌≡◌, ℕ, zero, suc, ◌-◌, ◌^◌, ◌≤◌, ◌<◌, List, [], ◌∷◌, ◌++◌, length}
+use Rattle.std.proofs.Common.{map, get_or, drop, slice_get, slice_range, Some, None, refl, ap}
+use Rattle.std.proofs.Common.{sym, ◌∙◌, arith}
 use Rattle.std.proofs.lemmas.List.{drop_more, map-append}
 use Rattle.std.proofs.lemmas.List.Folds.{drop_split}
 use Rattle.protobuf_parse_model.specs.Descriptors.{Text, FileDescriptor}
@@ -16,6 +16,7 @@ use Rattle.protobuf_parse_merged.specs.declared.message.FieldValue.TheOpen.{Fiel
 use Rattle.protobuf_parse_merged.specs.Answers.{Answer, ◌>>=◌, Fails}
 use Rattle.protobuf_parse_merged.specs.Merged.{FieldItem, Unknown, Value, Message, message}
 use Rattle.protobuf_parse_merged.specs.Declarations.{declared_in}
+use Rattle.protobuf_parse_merged.specs.Defaults.{defaults}
 use Rattle.protobuf_parse_merged.specs.Occurrences.{Held, Occurrence, occurrences, unknown_among}
 use Rattle.protobuf_parse_merged.specs.Oneofs.{counting}
 use Rattle.protobuf_parse_merged.specs.Merging.{Inner, as_one, fields_below, joined}
@@ -33,7 +34,7 @@ too_deep files (suc n) name fs none = absurd (omega arith)
 
 pub one_level : (files : List FileDescriptor) (levels : ℕ) (name : Text) (fs : Fields)
     (os : List Occurrence) (us : List Unknown) → (levels ≡ 0 → ⊥)
-    → IsTold files (declared_in files name) fs os us
+    → IsTold files (declared_in files name) (defaults files name) fs os us
     → merged_within files levels name fs
     ≡ with_fields (fields_below (merged_within files (levels - 1)) (declared_in files name) os (2 ^ 32))
     us
@@ -43,7 +44,7 @@ one_level files (suc n) name fs os us some told =
     let k : n ≡ suc n - 1 = omega arith in
     ap (λ (x : Answer (List FieldItem)). with_fields x (unknown_among files (declared_in files name) fs))
     (sym (same_fields (merged_within files n) (declared_in files name)
-    (counting (occurrences files (declared_in files name) fs)) os told.by_number.same (2 ^ 32)))
+    (counting (defaults files name ++ occurrences files (declared_in files name) fs)) os told.by_number.same (2 ^ 32)))
     ∙ ap (λ (unknown : List Unknown). with_fields
     (fields_below (merged_within files n) (declared_in files name) os (2 ^ 32)) unknown)
     (sym told.unknown)

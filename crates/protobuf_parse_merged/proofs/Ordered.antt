@@ -1,5 +1,5 @@
 -- Occurrences by their numbers.
-use Rattle.std.proofs.Common.{◌≡◌, ℕ, zero, suc, ◌+◌, ◌-◌, ◌<◌, ◌≤◌, ◌==◌, Bool, true, false, List}
+use Rattle.std.proofs.Common.{◌≡◌, ℕ, suc, ◌+◌, ◌-◌, ◌<◌, ◌≤◌, ◌==◌, Bool, true, false, List}
 use Rattle.std.proofs.Common.{[], ◌∷◌, ◌++◌, length, get_or, take, drop, map, slice_range, cond}
 use Rattle.std.proofs.Common.{refl, sym, ap, ◌∙◌, subst, arith, filter}
 use Rattle.std.proofs.Common.{not, ◌&&◌}
@@ -11,7 +11,6 @@ use Rattle.std.specs.List.Sorted.{IsNonDecreasingBy, IsStableByKey, ties}
 use Rattle.std.specs.Ordering.{is_lt, nat_cmp}
 use Rattle.protobuf_parse_merged.specs.declared.occurrences.Occurrence as code
 use Rattle.protobuf_parse_merged.specs.Occurrences.{Occurrence}
-use Rattle.protobuf_parse_merged.specs.Merging.{held_at}
 use Rattle.protobuf_parse_merged.specs.Inside.{AreOf, Ascends, IsByNumber, occurrence_view}
 
 -- one more of that number

@@ -1,12 +1,13 @@
 -- The fields of a merged message ascend.
-use Rattle.std.proofs.Common.{◌≡◌, ℕ, zero, suc, ◌≤◌, ◌<◌, List, [], ◌∷◌, ◌++◌, Option, Some, None}
-use Rattle.std.proofs.Common.{refl, sym, ap, subst, ◌∙◌, append-nil, arith, ◌^◌}
+use Rattle.std.proofs.Common.{◌≡◌, ℕ, zero, suc, ◌≤◌, List, [], ◌∷◌, ◌++◌, Option, Some, None}
+use Rattle.std.proofs.Common.{refl, sym, subst, append-nil, arith, ◌^◌}
 use Rattle.protobuf_parse_model.specs.Descriptors.{Text, FileDescriptor}
 use Rattle.protobuf_parse_decode.specs.Fields as decoded
 use Rattle.protobuf_parse_merged.specs.Answers.{Answer, ◌>>=◌}
 use Rattle.protobuf_parse_merged.specs.Merged.{Value, Unknown, FieldItem, Message, a_message}
 use Rattle.protobuf_parse_merged.specs.Merged.{fields_of}
 use Rattle.protobuf_parse_merged.specs.Declarations.{FieldsByNumber, declared_in}
+use Rattle.protobuf_parse_merged.specs.Defaults.{defaults}
 use Rattle.protobuf_parse_merged.specs.Occurrences.{Occurrence, occurrences, unknown_among}
 use Rattle.protobuf_parse_merged.specs.Oneofs.{counting}
 use Rattle.protobuf_parse_merged.specs.Merging.{Inner, field_values, fields_below, held_at}
@@ -74,7 +75,7 @@ unfolding merged_within
 message_ascends files zero name fs m is = absurd (cc)
 message_ascends files (suc levels) name fs m is =
     seen (fields_below (merged_within files levels) (declared_in files name)
-    (counting (occurrences files (declared_in files name) fs)) (2 ^ 32))
+    (counting (defaults files name ++ occurrences files (declared_in files name) fs)) (2 ^ 32))
     (unknown_among files (declared_in files name) fs) m (2 ^ 32)
     (below (merged_within files levels) (declared_in files name)
-    (counting (occurrences files (declared_in files name) fs)) (2 ^ 32)) is
+    (counting (defaults files name ++ occurrences files (declared_in files name) fs)) (2 ^ 32)) is

@@ -96,8 +96,8 @@ pub record IsByNumber (os sorted : List Occurrence) : Type 0 where
   pub same : (n : ℕ) → held_at n sorted ≡ held_at n os
   pub ascends : Ascends 0 sorted
 
--- What was told of records: their values by numbers, and what is unknown.
-pub record IsTold (files : List FileDescriptor) (declared : FieldsByNumber) (fs : decoded.Fields)
-    (os : List Occurrence) (us : List Unknown) : Type 0 where
-  pub by_number : IsByNumber (counting (occurrences files declared fs)) os
+-- What was told of records: their values by numbers, behind defaults, and what is unknown.
+pub record IsTold (files : List FileDescriptor) (declared : FieldsByNumber)
+    (front : List Occurrence) (fs : decoded.Fields) (os : List Occurrence) (us : List Unknown) : Type 0 where
+  pub by_number : IsByNumber (counting (front ++ occurrences files declared fs)) os
   pub unknown : us ≡ unknown_among files declared fs

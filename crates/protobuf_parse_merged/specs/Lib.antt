@@ -3,6 +3,7 @@ pub mod Merged
 pub mod Declarations
 pub mod Occurrences
 pub mod Oneofs
+pub mod Defaults
 pub mod Maps
 pub mod Merging
 pub mod Laws

@@ -7,7 +7,7 @@ use Rattle.std.specs.Ordering.{int_cmp, nat_cmp, ordering_then}
 use Rattle.std.specs.declared.cmp.Ordering.{Ordering}
 use Rattle.protobuf_parse_merged.specs.Merged.{Value, number, float, double, truth, text, bytes}
 use Rattle.protobuf_parse_merged.specs.Merged.{message, Values, no_values, value, Fields, no_fields}
-use Rattle.protobuf_parse_merged.specs.Merged.{field, Message, a_message}
+use Rattle.protobuf_parse_merged.specs.Merged.{field, a_message}
 
 -- a key: a number, and the bytes of a text
 abbrev pub Key : Type 0

@@ -14,6 +14,7 @@ use Rattle.protobuf_parse_merged.specs.Declarations.{Declared, FieldsByNumber, d
 use Rattle.protobuf_parse_merged.specs.Occurrences.{Held, plain, inside, Occurrence, occurrences}
 use Rattle.protobuf_parse_merged.specs.Occurrences.{unknown_among}
 use Rattle.protobuf_parse_merged.specs.Oneofs.{counting}
+use Rattle.protobuf_parse_merged.specs.Defaults.{defaults}
 use Rattle.protobuf_parse_merged.specs.Maps.{arranged}
 
 -- what is left of such records, as the message of that name
@@ -120,10 +121,11 @@ with_fields fields unknown = do
   Some (a_message (fields_of items) unknown)
 
 -- a message of fields that are declared so
-abbrev pub message_of : List FileDescriptor → Inner → FieldsByNumber → decoded.Fields
-    → Answer Message
-message_of files inner declared fs =
-    with_fields (fields_below inner declared (counting (occurrences files declared fs)) (2 ^ 32))
+abbrev pub message_of : List FileDescriptor → Inner → FieldsByNumber
+    → (front : List Occurrence) → decoded.Fields → Answer Message
+message_of files inner declared front fs =
+    with_fields
+    (fields_below inner declared (counting (front ++ occurrences files declared fs)) (2 ^ 32))
     (unknown_among files declared fs)
 
 -- What is left of records, as the message of that name, of at most so many levels of messages and
@@ -131,8 +133,9 @@ message_of files inner declared fs =
 unfoldable pub merged_within : List FileDescriptor → (levels : ℕ) → Inner
 merged_within files zero name fs = None
 merged_within files (suc levels) name fs =
-    message_of files (merged_within files levels) (declared_in files name) fs
+    message_of files (merged_within files levels) (declared_in files name) (defaults files name) fs
 
--- what is left of the fields of a message, by the files that declare it
+-- What is left of the fields of a message, by the files that declare it. The decoder gives a hundred
+-- levels, and the empty message of an entry that has no value may be one more.
 abbrev pub merged_message : List FileDescriptor → (name : Text) → decoded.Fields → Answer Message
-merged_message files name fs = merged_within files 100 name fs
+merged_message files name fs = merged_within files 101 name fs

@@ -134,7 +134,7 @@ fn is_implicit(index: &Index<'_>, message: &str, field: &FieldDescriptorProto) -
 }
 
 /// Whether the message stands in a file with the syntax `proto3`.
-fn is_in_proto3(index: &Index<'_>, message: &str) -> bool
+pub fn is_in_proto3(index: &Index<'_>, message: &str) -> bool
     ensures { result ≡ spec.stands_in_proto3 (map file_view index.now) message.now }
 {
     match index.message(message) {

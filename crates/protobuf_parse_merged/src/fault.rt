@@ -11,8 +11,8 @@ use thiserror::Error;
 pub enum MergeError {
     #[error("out of memory")]
     Memory,
-    /// A message or a group inside 100 others, the outermost one among them. The decoder gives none
-    /// such.
+    /// A message or a group inside 101 others, the outermost one among them. What the decoder gives
+    /// has none such.
     #[error("more than 100 messages stand inside one another")]
     TooDeep,
 }

@@ -2,6 +2,7 @@
 #![tactic(auto)]
 
 mod declared;
+mod defaults;
 mod fault;
 mod laws;
 mod maps;

@@ -14,7 +14,7 @@ use std::alloc::{AllocError, Global};
 use std::collections::BTreeMap;
 
 /// The number of the field of an entry that holds the key.
-const ENTRY_KEY: u32 = 1;
+pub const ENTRY_KEY: u32 = 1;
 
 /// A number, and the bytes of a text.
 pub type Key<'a> = (i128, &'a [u8]);

@@ -23,8 +23,9 @@ use protobuf_parse_decode::DecodedField;
 use protobuf_parse_index::Index;
 use std::alloc::{AllocError, Global};
 
-/// How many messages and groups may stand inside one another, the outermost one among them.
-const MOST_LEVELS: u32 = 100;
+/// How many messages and groups may stand inside one another, the outermost one among them: the
+/// hundred that the decoder gives, and inside these the empty one of an entry that has no value.
+const MOST_LEVELS: u32 = 101;
 
 /// A message as people mean it: what is left of its records once they are merged. `fields` is what
 /// the decoder gave of the message of that full name, with its first dot: `.shop.Item`.
@@ -34,14 +35,15 @@ const MOST_LEVELS: u32 = 100;
 /// proto3 without a label, isn't there where its last value is zero, false or empty. Of a oneof only
 /// the member that stands last is there. A number that a closed enum doesn't declare is no value:
 /// it is unknown, as is the entry of a map that has such a value. Of the entries of a map with one
-/// key the last counts, and they come in ascending order of their keys. Where the files of the index
-/// don't declare the message, all of it is unknown.
+/// key the last counts, and they come in ascending order of their keys. Each has both its fields: a
+/// key or a value that isn't there is the default of its type, of an enum the first value that is
+/// declared. Where the files of the index don't declare the message, all of it is unknown.
 ///
 /// The time is in proportion to the fields, with the logarithm of their count, and with look-ups for
 /// each. Texts and bytes are not copied.
 ///
-/// Errors: `TooDeep` where a hundred messages stand around another, of which the decoder gives none;
-/// `Memory`.
+/// Errors: `TooDeep` where more than 101 messages stand inside one another, which is one more than
+/// the decoder gives, for the empty message of an entry that has no value; `Memory`.
 ///
 /// ```text
 /// let fields = decode(alloc, &index, ".shop.Item", &bytes)?;

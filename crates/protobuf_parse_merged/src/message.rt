@@ -18,8 +18,8 @@ pub struct Field<'a> {
     pub number: u32,
     /// One value, or where the field is repeated one or more, in order. Those of a map are its
     /// entries, one for each key, in ascending order of their keys: numbers by value, false before
-    /// true, texts by their bytes. Each is a message with the fields 1 and 2, the key and the value,
-    /// where a missing one means the default of its type.
+    /// true, texts by their bytes. Each is a message with the fields 1 and 2, the key and the value:
+    /// where the record has none, the default of its type stands there.
     pub values: Vec<FieldValue<'a>>,
 }
 

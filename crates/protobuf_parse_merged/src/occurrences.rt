@@ -6,6 +6,7 @@ ghost use Rattle.protobuf_parse_model.specs.Descriptors.{file_view};
 ghost use Rattle.protobuf_parse_decode.specs.Inside.{value_view, values_view};
 ghost use Rattle.protobuf_parse_decode.specs.Views.{field_view, fields_view};
 ghost use Rattle.protobuf_parse_merged.specs.Declarations.{declared_in};
+ghost use Rattle.protobuf_parse_merged.specs.Defaults.{defaults};
 ghost use Rattle.protobuf_parse_merged.specs.Occurrences as spec;
 ghost use Rattle.protobuf_parse_merged.specs.Inside.{IsTold, declared_view, fields_in, held_in};
 ghost use Rattle.protobuf_parse_merged.specs.Inside.{held_view, occurrence_of, occurrence_view};
@@ -13,6 +14,7 @@ ghost use Rattle.protobuf_parse_merged.specs.Merging.{joined};
 ghost use Rattle.protobuf_parse_merged.specs.Views.{unknown_view};
 
 use crate::declared::{Declared, declaration_of};
+use crate::defaults::defaults_of;
 use crate::message::Unknown;
 use crate::runs::by_number;
 use crate::strays::stray;
@@ -209,13 +211,14 @@ pub fn told_of<'r, 'a>(
 ) -> Result<Told<'r, 'a>, AllocError>
     ensures { IfOk result (λ told. IsTold (map file_view index.now)
         (declared_in (map file_view index.now) message.now)
+        (defaults (map file_view index.now) message.now)
         (fields_view fields.now) (map occurrence_view told.occurrences.items)
         (map unknown_view told.unknown.items)) }
 {
-    let mut occurrences = Vec::new(alloc);
+    let mut all = defaults_of(alloc, index, message)?;
     let mut unknown = Vec::new(alloc);
-    tell_fields(index, message, fields, &mut occurrences, &mut unknown)?;
-    let occurrences = by_number(alloc, &occurrences)?;
+    tell_fields(index, message, fields, &mut all, &mut unknown)?;
+    let occurrences = by_number(alloc, &all)?;
     Ok(Told {
         occurrences,
         unknown,
@@ -231,21 +234,16 @@ pub fn told_of_all<'r, 'a>(
 ) -> Result<Told<'r, 'a>, AllocError>
     ensures { IfOk result (λ told. IsTold (map file_view index.now)
         (declared_in (map file_view index.now) message.now)
+        (defaults (map file_view index.now) message.now)
         (joined (held_in (map occurrence_view run.now)))
         (map occurrence_view told.occurrences.items) (map unknown_view told.unknown.items)) }
 {
-    let mut occurrences = Vec::new(alloc);
+    let mut all = defaults_of(alloc, index, message)?;
     let mut unknown = Vec::new(alloc);
     'run: for occurrence in run {
-        tell_held(
-            index,
-            message,
-            occurrence.held,
-            &mut occurrences,
-            &mut unknown,
-        )?;
+        tell_held(index, message, occurrence.held, &mut all, &mut unknown)?;
     }
-    let occurrences = by_number(alloc, &occurrences)?;
+    let occurrences = by_number(alloc, &all)?;
     Ok(Told {
         occurrences,
         unknown,

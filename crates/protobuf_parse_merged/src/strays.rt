@@ -15,7 +15,7 @@ use protobuf_parse_decode::{DecodedField, Meaning, Value};
 use protobuf_parse_index::Index;
 
 /// The number of the field of a map's entry that holds the value.
-const ENTRY_VALUE: u32 = 2;
+pub const ENTRY_VALUE: u32 = 2;
 
 /// What the value is if it is none of the field.
 pub fn stray<'a>(

@@ -148,20 +148,19 @@ fn map_file(alloc: Global) -> Result<FileDescriptorProto, AllocError> {
     Ok(file)
 }
 
-/// Of the key 3 the last entry counts, and entries stand by their keys.
+/// Of the key 3 the last entry counts, which has no value, and entries stand by their keys.
 #[test]
 fn entries_of_maps_are_by_keys(rt: HostRuntime) -> Result<(), TestError> {
     let alloc = rt.alloc();
     let bytes = [
-        0x0a, 0x04, 0x08, 0x03, 0x10, 0x05, 0x0a, 0x04, 0x08, 0x01, 0x10, 0x06, 0x0a, 0x04, 0x08,
-        0x03, 0x10, 0x00,
+        0x0a, 0x04, 0x08, 0x03, 0x10, 0x05, 0x0a, 0x02, 0x10, 0x07, 0x0a, 0x02, 0x08, 0x03,
     ];
     let shown = shown_by(alloc, map_file(alloc)?, &bytes)?;
     assert_eq!(rt;
         shown.as_str(),
         "Message { fields: [Field { number: 1, values: [\
-        Message(Message { fields: [Field { number: 1, values: [Number { word: 1, number: 1 }] }, \
-        Field { number: 2, values: [Number { word: 6, number: 6 }] }], unknown: [] }), \
+        Message(Message { fields: [Field { number: 1, values: [Number { word: 0, number: 0 }] }, \
+        Field { number: 2, values: [Number { word: 7, number: 7 }] }], unknown: [] }), \
         Message(Message { fields: [Field { number: 1, values: [Number { word: 3, number: 3 }] }, \
         Field { number: 2, values: [Number { word: 0, number: 0 }] }], unknown: [] })] }], \
         unknown: [] }"
@@ -185,13 +184,13 @@ fn nested(alloc: Global, count: usize) -> Result<Vec<DecodedField<'static>>, All
     Ok(fields)
 }
 
-/// The outermost message is a level, too.
+/// The outermost message is a level, too. One more than a hundred may be there.
 #[test]
-fn a_hundred_levels_are_merged(rt: HostRuntime) -> Result<(), TestError> {
+fn a_hundred_levels_and_one_are_merged(rt: HostRuntime) -> Result<(), TestError> {
     let alloc = rt.alloc();
     let files = [file(alloc, "proto3")?];
     let index = Index::of(alloc, &files)?;
-    for (count, fits) in [(99, true), (100, false)] {
+    for (count, fits) in [(100, true), (101, false)] {
         let fields = nested(alloc, count)?;
         let result = merged(alloc, &index, ".M", &fields);
         assert_eq!(rt; result.is_ok(), fits, "{count}");

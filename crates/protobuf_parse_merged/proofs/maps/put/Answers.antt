@@ -1,4 +1,4 @@
-use Rattle.std.proofs.Common.{◌≡◌, ◌∙◌, ap, refl}
+use Rattle.std.proofs.Common.{◌∙◌, ap, refl}
 use Rattle.std.specs.BTreeMap.{insert_entry}
 use Rattle.protobuf_parse_merged.specs.Maps as spec
 use Rattle.protobuf_parse_merged.specs.Inside.{value_view}

@@ -1,5 +1,5 @@
-use Rattle.std.proofs.Common.{◌≡◌, ◌+◌, ◌^◌, List, ◌++◌, ◌∷◌, [], map, drop, sym, subst, ap, ◌∙◌, ◌-◌}
-use Rattle.std.proofs.Common.{arith, get_or, slice_range, refl, rules, Option, Some}
+use Rattle.std.proofs.Common.{◌≡◌, ◌^◌, List, ◌∷◌, [], map, drop, sym, subst, ap, ◌∙◌}
+use Rattle.std.proofs.Common.{arith, get_or, slice_range, rules, Option, Some}
 use Rattle.std.proofs.lemmas.Result.{err_from_is_err_and}
 use Rattle.std.proofs.lemmas.List.{drop_all}
 use Rattle.protobuf_parse_model.specs.Descriptors.{file_view}
@@ -9,7 +9,7 @@ use Rattle.protobuf_parse_merged.specs.declared.occurrences.Held as codeheld
 use Rattle.protobuf_parse_merged.specs.Answers.{Answer, ◌>>=◌, Fails, Gives}
 use Rattle.protobuf_parse_merged.specs.Merged.{Value, Message, message, FieldItem}
 use Rattle.protobuf_parse_merged.specs.Declarations.{declared_in}
-use Rattle.protobuf_parse_merged.specs.Occurrences.{Held, Occurrence}
+use Rattle.protobuf_parse_merged.specs.Occurrences.{Held}
 use Rattle.protobuf_parse_merged.specs.Merging as spec
 use Rattle.protobuf_parse_merged.specs.Merging.{merged_within}
 use Rattle.protobuf_parse_merged.specs.Inside.{Ascends, declared_view, field_view, held_in}

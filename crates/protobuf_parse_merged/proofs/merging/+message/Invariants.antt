@@ -1,4 +1,4 @@
-use Rattle.std.proofs.Common.{◌≡◌, ◌+◌, ◌*◌, ◌-◌, ◌≤◌, ◌^◌, length, drop, map}
+use Rattle.std.proofs.Common.{◌+◌, ◌*◌, ◌-◌, ◌≤◌, ◌^◌, length, drop, map}
 use Rattle.protobuf_parse_model.specs.Descriptors.{file_view}
 use Rattle.protobuf_parse_merged.specs.Declarations.{declared_in}
 use Rattle.protobuf_parse_merged.specs.Merging as spec

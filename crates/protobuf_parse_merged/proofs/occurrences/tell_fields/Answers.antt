@@ -1,4 +1,4 @@
-use Rattle.std.proofs.Common.{◌≡◌, ◌+◌, List, ◌++◌, [], map, drop, sym, subst, ap, ◌∙◌}
+use Rattle.std.proofs.Common.{◌≡◌, ◌+◌, List, ◌++◌, [], map, drop, subst, ap, ◌∙◌}
 use Rattle.std.proofs.lemmas.List.{drop_all}
 use Rattle.protobuf_parse_model.specs.Descriptors.{file_view}
 use Rattle.protobuf_parse_decode.specs.declared.field.DecodedField.{DecodedField}

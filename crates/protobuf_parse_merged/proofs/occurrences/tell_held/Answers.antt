@@ -1,4 +1,4 @@
-use Rattle.std.proofs.Common.{append-nil, sym, ap, ◌++◌, ◌∙◌, map}
+use Rattle.std.proofs.Common.{append-nil, sym}
 use Rattle.protobuf_parse_merged.specs.Occurrences.{occurrences, unknown_among}
 use Rattle.protobuf_parse_merged.proofs.occurrences.tell_held.Goals as goal
 

@@ -1,4 +1,4 @@
-use Rattle.std.proofs.Common.{◌≡◌, ◌+◌, List, ◌++◌, [], map, drop, sym, subst, ap, ◌∙◌}
+use Rattle.std.proofs.Common.{◌≡◌, ◌+◌, List, ◌++◌, [], map, drop, subst, ap, ◌∙◌}
 use Rattle.std.proofs.lemmas.List.{drop_all}
 use Rattle.protobuf_parse_model.specs.Descriptors.{file_view}
 use Rattle.protobuf_parse_merged.specs.declared.occurrences.Occurrence as code
@@ -27,7 +27,7 @@ run-preserved c =
     let rest = joined (held_in (map occurrence_view (drop (i + 1) xs))) in (
       ap (λ (os : List Occurrence). os ++ spec.occurrences files declared rest)
           c.in_ok-tell_held.ensures.occurrences
-          ∙ told_more (map occurrence_view c.run.occurrences.items)
+          ∙ told_more (map occurrence_view c.run.all.items)
           (spec.occurrences files declared one) (spec.occurrences files declared rest) _ _
           c.run.invariant.0
           (ap (spec.occurrences files declared) next ∙ values_join files declared one rest),
@@ -47,10 +47,14 @@ returns c =
     let none : drop c.run.occurrence-index xs ≡ [] =
     drop_all c.run.occurrence-index xs c.run-test.false in
     let values = no_values files declared _ _
-    (subst (λ (ys : List code.Occurrence). map occurrence_view c.run.occurrences.items
+    (subst (λ (ys : List code.Occurrence). map occurrence_view c.run.all.items
     ++ spec.occurrences files declared (joined (held_in (map occurrence_view ys)))
-    ≡ spec.occurrences files declared (joined (held_in (map occurrence_view xs)))) none
-    c.run.invariant.0) in
+    ≡ map occurrence_view c.in_ok-all.all.items
+    ++ spec.occurrences files declared (joined (held_in (map occurrence_view xs)))) none
+    c.run.invariant.0)
+    ∙ ap (λ (front : List Occurrence). front
+    ++ spec.occurrences files declared (joined (held_in (map occurrence_view xs))))
+    c.in_ok-all.ensures in
     record {
       by_number = subst (λ (os : List Occurrence). IsByNumber (counting os)
           (map occurrence_view c.in_ok-occurrences.occurrences.items))

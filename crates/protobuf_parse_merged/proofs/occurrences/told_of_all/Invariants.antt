@@ -9,10 +9,11 @@ use Rattle.protobuf_parse_merged.proofs.occurrences.told_of_all.Given as goal
 
 abbrev pub invariant-run : goal.invariant-run
 invariant-run l =
-    (map occurrence_view l.occurrences.items
+    (map occurrence_view l.all.items
     ++ spec.occurrences (map file_view l.index) (declared_in (map file_view l.index) l.message)
     (joined (held_in (map occurrence_view (drop l.occurrence-index l.run))))
-    ≡ spec.occurrences (map file_view l.index) (declared_in (map file_view l.index) l.message)
+    ≡ map occurrence_view l.initial.all.items
+    ++ spec.occurrences (map file_view l.index) (declared_in (map file_view l.index) l.message)
     (joined (held_in (map occurrence_view l.run))))
     × (map unknown_view l.unknown.items
     ++ spec.unknown_among (map file_view l.index) (declared_in (map file_view l.index) l.message)

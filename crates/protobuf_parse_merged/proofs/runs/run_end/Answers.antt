@@ -1,4 +1,4 @@
-use Rattle.std.proofs.Common.{◌≡◌, ◌+◌, ◌∷◌, [], ◌++◌, map, slice_range, sym, subst, ap, ◌∙◌, arith}
+use Rattle.std.proofs.Common.{◌≡◌, ◌+◌, map, slice_range, ap, ◌∙◌, arith}
 use Rattle.std.proofs.lemmas.List.{map_push}
 use Rattle.protobuf_parse_merged.specs.declared.occurrences.Occurrence as code
 use Rattle.protobuf_parse_merged.specs.Inside.{AreOf, occurrence_view}
