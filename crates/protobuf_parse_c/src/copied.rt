@@ -1,6 +1,6 @@
 //! What was made, in the rooms of the caller.
 
-ghost use Rattle.std.specs.Prelude.{◌≡◌, take};
+ghost use Rattle.std.specs.Prelude.{◌≡◌, pos, take};
 ghost use Rattle.protobuf_parse_c.specs.Copies.{IsSetCopied};
 
 use crate::compile::Answer;
@@ -16,7 +16,10 @@ pub fn copy_answer(
     faults: &mut [PbFault],
     sizes: &mut PbSizes,
 ) -> i32
-    ensures { IsSetCopied answer.now.set result sizes.new set.new }
+    ensures set { IsSetCopied answer.now.set result sizes.new set.new }
+    ensures memory { result ≡ pos 3 → ⊥ }
+    ensures unwritten { result ≡ pos 2
+        → (set.new ≡ set.old) × (texts.new ≡ texts.old) × (faults.new ≡ faults.old) }
 {
     let made = match &answer.set {
         Some(bytes) => bytes.as_slice(),

@@ -67,6 +67,10 @@ pub extern "C" fn protobuf_parse_compile(
 ) -> i32
     ensures set { result ≡ pos 0 → IsCompiled (map file_bytes files.now)
         (map text_bytes inputs.now) (take sizes.new.set set.new) }
+    ensures no_room { result ≡ pos 2
+        → (set.new ≡ set.old) × (texts.new ≡ texts.old) × (faults.new ≡ faults.old) }
+    ensures no_memory { result ≡ pos 3
+        → (set.new ≡ set.old) × (texts.new ≡ texts.old) × (faults.new ≡ faults.old) }
 {
     match compiled(alloc, files, inputs, flags & SOURCE_INFO != 0) {
         Ok(answer) => copy_answer(&answer, set, texts, faults, sizes),
