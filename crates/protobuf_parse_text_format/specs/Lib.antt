@@ -1,9 +1,0 @@
-pub mod Pieces
-pub mod Raw
-pub mod Decimal
-pub mod Floats
-pub mod TextFormat
-pub mod Inside
-pub mod Puts
-pub mod Limbs
-pub mod Sizes
